@@ -1,0 +1,5 @@
+pub mod Inverse
+pub mod Places
+pub mod Signed
+pub mod Stores
+pub mod Tabulate

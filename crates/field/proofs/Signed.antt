@@ -1,0 +1,25 @@
+-- A signed number and its bits, at any width: what a cast of a sign's half needs.
+use Prim.Native.Nat.{ℕ, zero, suc, _+_, _-_, _^_, _≤_, _<_}
+use mathlib.Core.Path.{_≡_, refl, ap, _∙_, sym}
+use mathlib.Core.Bool.{Bool, true, false}
+use native.Mathlib.Omega.{arith}
+use borrow.Author.Tests.{ltb-true}
+use lib.IntN.{ℤ, pos, negsuc, natAbs}
+use lib.Signed.{ltZ, nonNeg}
+use lib.Dec.{T}
+use mir.Syntax.{Width}
+use mir.Val.{Fits, SFits, bits, hbits, ofZ, toZ}
+use mir.ValLaws.{toZ-pos, toZ-ofZ, half-full, ofZ-fits}
+
+-- a negative number's bits turned round are those of a number that is not negative
+pub flipped : (w : Width) (z : ℤ) → SFits w z → ltZ z (pos 0) ≡ true → toZ w ((2 ^ bits w - 1) - ofZ w z) ≡ pos ((2 ^ bits w - 1) - ofZ w z)
+flipped w (pos n) f e = let h : n < 0 = ltb-true n 0 e in absurd (omega arith)
+flipped w (negsuc k) f e =
+    let b : k < 2 ^ bits w = half-full w (f .sfits) in
+    let same : (2 ^ bits w - 1) - (2 ^ bits w - suc k) ≡ k = omega arith in
+    rw same (toZ-pos w k (f .sfits))
+
+-- a number that is not negative is its own bits
+pub plain : (w : Width) (z : ℤ) → SFits w z → ltZ z (pos 0) ≡ false → toZ w (ofZ w z) ≡ pos (ofZ w z)
+plain w (pos n) f e = toZ-pos w n (f .sfits)
+plain w (negsuc k) f e = let z : _≡_ {A = ℕ} 0 1 = cc in absurd (omega arith)

@@ -1,0 +1,22 @@
+-- `u32_of` meets its contract: past the end, a list's element is the default.
+use denote.Ref.{now}
+use mathlib.Core.Path.{sym}
+use lib.ListN.{List·getD-eq-default}
+use borrow.Author.Needs.{needs}
+use Rattle.field.proofs.u32_of.Statement.{statement}
+use Rattle.field.proofs.u32_of.Tie as tie
+
+mul-result : tie.Need-mul-result
+mul-result c = search needs
+
+shared-slice-read-result : tie.Need-shared-slice-read-result
+shared-slice-read-result c = search needs
+
+returns : tie.Need-returns
+returns c = search needs
+
+returns-2 : tie.Need-returns-2
+returns-2 c = sym (List·getD-eq-default (now (c .before .args .src)) 0 (c .if1 .left))
+
+pub u32-of-spec : {M : Type 1} → statement M
+u32-of-spec = tie.close (tie.spec mul-result shared-slice-read-result returns returns-2)
