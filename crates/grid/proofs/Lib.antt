@@ -1,0 +1,4 @@
+pub mod Entry
+pub mod Limit
+pub mod Axes
+pub mod Voxels

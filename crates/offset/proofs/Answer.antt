@@ -1,0 +1,58 @@
+-- `offsetOf` by its three cases: each answer from what holds of the bits, and back. Assumes nothing.
+use mathlib.Core.Path.{_≡_, refl, subst}
+use Prim.Native.Nat.{ℕ, _≤_, _<_}
+use mathlib.Core.Bool.{Bool, true, false, cond}
+use lib.Dec.{leb}
+use borrow.Author.Tests.{le-leb, lt-leb, leb-true, leb-false}
+use Rattle.offset.specs.declared.Offset.{Offset}
+use Rattle.offset.specs.declared.Offset.the-variants.{Whole, NotWhole, TooLarge}
+use Rattle.offset.specs.Offset.{offsetLimit, isWhole, wholeOf, offsetOf}
+
+-- ---- from the bits to the answer
+
+pub whole-answer : (bits n : ℕ) → isWhole bits ≡ true → wholeOf bits ≡ n → n ≤ offsetLimit → offsetOf bits ≡ Whole n
+unfolding offsetOf
+whole-answer bits n w v l = simp (w, v, le-leb n offsetLimit l)
+
+pub large-answer : (bits : ℕ) → isWhole bits ≡ true → offsetLimit < wholeOf bits → offsetOf bits ≡ TooLarge
+unfolding offsetOf
+large-answer bits w l = simp (w, lt-leb (wholeOf bits) offsetLimit l)
+
+pub not-whole-answer : (bits : ℕ) → isWhole bits ≡ false → offsetOf bits ≡ NotWhole
+unfolding offsetOf
+not-whole-answer bits w = simp w
+
+-- ---- from the answer to the bits
+
+-- what an answer says of the two tests and the number that it was chosen by
+abbrev Says : Offset → Bool → Bool → ℕ → Type 0
+Says (Whole n) p q v = (p ≡ true) × (q ≡ true) × (v ≡ n)
+Says NotWhole p q v = p ≡ false
+Says TooLarge p q v = (p ≡ true) × (q ≡ false)
+
+says : (bits : ℕ) (o : Offset) → offsetOf bits ≡ o → Says o (isWhole bits) (leb (wholeOf bits) offsetLimit) (wholeOf bits)
+unfolding offsetOf
+says bits o e = subst (λ (x : Offset). Says x (isWhole bits) (leb (wholeOf bits) offsetLimit) (wholeOf bits)) e (go (isWhole bits) (leb (wholeOf bits) offsetLimit) (wholeOf bits))
+  where
+    go : (p q : Bool) (v : ℕ) → Says (cond p (cond q (Whole v) TooLarge) NotWhole) p q v
+    go true true v = (refl, refl, refl)
+    go true false v = (refl, refl)
+    go false q v = refl
+
+pub whole-is-whole : (bits n : ℕ) → offsetOf bits ≡ Whole n → isWhole bits ≡ true
+whole-is-whole bits n e = says bits (Whole n) e .0
+
+pub whole-value : (bits n : ℕ) → offsetOf bits ≡ Whole n → wholeOf bits ≡ n
+whole-value bits n e = says bits (Whole n) e .2
+
+pub whole-limit : (bits n : ℕ) → offsetOf bits ≡ Whole n → n ≤ offsetLimit
+whole-limit bits n e = subst (λ (v : ℕ). v ≤ offsetLimit) (whole-value bits n e) (leb-true (wholeOf bits) offsetLimit (says bits (Whole n) e .1))
+
+pub not-whole-is-not : (bits : ℕ) → offsetOf bits ≡ NotWhole → isWhole bits ≡ false
+not-whole-is-not bits e = says bits NotWhole e
+
+pub large-is-whole : (bits : ℕ) → offsetOf bits ≡ TooLarge → isWhole bits ≡ true
+large-is-whole bits e = says bits TooLarge e .0
+
+pub large-value : (bits : ℕ) → offsetOf bits ≡ TooLarge → offsetLimit < wholeOf bits
+large-value bits e = leb-false (wholeOf bits) offsetLimit (says bits TooLarge e .1)
