@@ -1,0 +1,8 @@
+pub mod Signs
+pub mod Found
+pub mod Regions
+pub mod Walks
+pub mod Filled
+pub mod Pieces
+pub mod Fills
+pub mod Listings

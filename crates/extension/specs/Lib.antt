@@ -1,0 +1,4 @@
+pub mod Walk
+pub mod Listing
+pub mod Fills
+pub mod Pieces
