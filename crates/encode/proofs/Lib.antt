@@ -1,0 +1,3 @@
+pub mod Magic
+pub mod Round
+pub mod Widths

@@ -1,0 +1,134 @@
+// Rules 5 to 10 of the refusal table: what is judged of a header's fields alone, for the reader and for the writer
+// (01-scope.md, "Refusal numbers" and "The header rules").
+ghost use mathlib.Core.Path.{_≡_};
+ghost use Prim.Native.Nat.{_≤_};
+ghost use Rattle.offset.specs.Offset.{offsetLimit};
+ghost use Rattle.rules.specs.Rules.{judgedOf, recordJudged, offsetOutside, axisCount, HasFormat, HasOffset};
+use datatype::Datatype;
+use datatype::Format;
+use header::Header;
+use header::Kind;
+use offset::Offset;
+use refusal::Refusal;
+
+// The fields that these rules judge.
+pub struct Shape {
+    pub kind: Kind,
+    pub dim: [i16; 8],
+    pub datatype: i16,
+    pub bitpix: i16,
+    pub vox_offset: u32,
+}
+
+// Where the image is: the voxel offset as a whole number, and how many bytes there are.
+pub struct Image {
+    pub offset: u64,
+    pub bytes: u64,
+}
+
+pub enum Judged {
+    Passed(Image),
+    Failed(Refusal),
+}
+
+fn failed(number: u64, place: usize) -> Judged
+    ensures { λ r. ⌜ r ≡ Judged.Failed (record { number = number; place = place }) ⌝ }
+{
+    Judged::Failed(Refusal { number, place })
+}
+
+// dim[0], the number of axes.
+pub fn axis_count(dim: &[i16]) -> usize
+    ensures { λ r. ⌜ (r ≡ axisCount (now (dim .entry))) × (r ≤ 32767) ⌝ }
+{
+    grid::extent_of(dim, 0) as usize
+}
+
+// Rule 9, for a whole voxel offset and the length of the header file.
+fn offset_outside(kind: Kind, offset: u64, len: usize) -> bool
+    ensures { λ r. ⌜ r ≡ offsetOutside kind offset len ⌝ }
+{
+    if 134217728 < offset {
+        return true;
+    }
+    match kind {
+        Kind::Single => offset < 352,
+        Kind::Pair => 134217728 < len,
+    }
+}
+
+// Rules 9 and 10.
+fn judge_image(shape: Shape, len: usize, format: Format, at: u64) -> Judged
+    requires { ⌜ HasOffset shape format at ⌝ }
+    ensures { λ r. ⌜ r ≡ judgedOf shape len ⌝ }
+{
+    let kind = shape.kind;
+    if offset_outside(kind, at, len) {
+        return failed(9, 108);
+    }
+    let dim = shape.dim;
+    let bytes = grid::image_bytes(&dim, axis_count(&dim), format.bytes);
+    if 1099511627776 < bytes {
+        return failed(10, 40);
+    }
+    Judged::Passed(Image { offset: at, bytes })
+}
+
+// Rules 7 and 8, and then the rest.
+fn judge_format(shape: Shape, len: usize, format: Format) -> Judged
+    requires { ⌜ HasFormat shape format ⌝ }
+    ensures { λ r. ⌜ r ≡ judgedOf shape len ⌝ }
+{
+    if shape.bitpix != format.bits {
+        return failed(7, 72);
+    }
+    let offset = offset::decode(shape.vox_offset);
+    match offset {
+        Offset::Whole(at) => judge_image(shape, len, format, at),
+        Offset::NotWhole => failed(8, 108),
+        Offset::TooLarge => failed(9, 108),
+    }
+}
+
+// Rules 5 and 6, and then the rest. `len` is the length of the header file, which only a pair's rule 9 asks for.
+pub fn judge(shape: Shape, len: usize) -> Judged
+    ensures { λ r. ⌜ r ≡ judgedOf shape len ⌝ }
+{
+    let dim = shape.dim;
+    let bad = grid::first_below_one(&dim, axis_count(&dim));
+    if 0 < bad {
+        return failed(5, 40 + 2 * bad);
+    }
+    let datatype = datatype::datatype_of(shape.datatype);
+    match datatype {
+        Datatype::Known(format) => judge_format(shape, len, format),
+        Datatype::Unknown => failed(6, 70),
+    }
+}
+
+// Rules 2 and 5 to 10 of a record.
+pub fn judge_record(h: Header) -> Judged
+    ensures { λ r. ⌜ r ≡ recordJudged h ⌝ }
+{
+    let dim = h.dim;
+    let n = axis_count(&dim);
+    if n < 1 {
+        return failed(2, 40);
+    }
+    if 7 < n {
+        return failed(2, 40);
+    }
+    let kind = h.kind;
+    let intent = h.intent;
+    let scale = h.scale;
+    judge(
+        Shape {
+            kind,
+            dim,
+            datatype: intent.datatype,
+            bitpix: intent.bitpix,
+            vox_offset: scale.vox_offset,
+        },
+        0,
+    )
+}
