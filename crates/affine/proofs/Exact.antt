@@ -1,0 +1,169 @@
+-- Products and sums of whole numbers in binary32 are exact where the result is at most 2 ^ 24 in size. Assumes nothing.
+use mathlib.Core.Path.{_≡_, refl, sym, ap, _∙_, subst}
+use mathlib.Core.Bool.{Bool, true, false, not, cond, _&&_, Bool·beq}
+use Prim.Native.Nat.{ℕ, zero, suc, _+_, _-_, _*_, _^_, _≤_, _<_}
+use native.Mathlib.Nat.{mul-one, mul-zero, zero-mul, add-mul, mul-comm, mul-assoc, mul-mul-mul-comm, mul-pos, mul-sub, mul-le-mul, le-trans, zero-lt-suc, mul-lt-mul-of-pos-right, lt-of-mul-lt-mul-right}
+use native.Mathlib.Omega.{arith}
+use lib.Dec.{T, ltb, ltb→lt, lt→ltb, nltb→le}
+use lib.IntN.{ℤ, pos, negsuc, negℤ, natAbs, _+ℤ_, _*ℤ_, negℤ-+ℤ, +ℤ-comm}
+use lib.Ieee.{Float, nan, inf, fin, binary32, up, down, unlike, round, sum, add, mul, ofInt}
+use lib.Ieee.Back.{round-whole}
+use lib.Ieee.Exact.{HasValue}
+use lib.Ieee.Fits.{down-pos}
+use lib.Ieee.Scale.{round-same}
+use borrow.Author.Tests.{lt-ltb, le-ltb}
+use Rattle.affine.specs.Method.{indexOf}
+use Rattle.affine.specs.Whole.{signed, IsWhole}
+
+-- ---- integers by sign and size
+signed-mul : (s t : Bool) (a b : ℕ) → signed (unlike s t) (a * b) ≡ signed s a *ℤ signed t b
+signed-mul false false a b = refl
+signed-mul false true a zero = ap (λ (x : ℕ). negℤ (pos x)) (mul-zero a) ∙ sym (ap pos (mul-zero a))
+signed-mul false true a (suc b) = refl
+signed-mul true false zero b = ap (λ (x : ℕ). negℤ (pos x)) (zero-mul b) ∙ sym (ap pos (zero-mul b))
+signed-mul true false (suc a) b = refl
+signed-mul true true zero zero = refl
+signed-mul true true zero (suc b) = ap pos (zero-mul (suc b)) ∙ sym (ap (λ (x : ℕ). negℤ (pos x)) (zero-mul (suc b)))
+signed-mul true true (suc a) zero = ap pos (mul-zero (suc a)) ∙ sym (ap (λ (x : ℕ). negℤ (pos x)) (mul-zero (suc a)))
+signed-mul true true (suc a) (suc b) = refl
+
+-- a - b, for a < b and for b ≤ a
+below : (a b : ℕ) → a < b → pos a +ℤ negℤ (pos b) ≡ negℤ (pos (b - a))
+below a zero h = absurd (none h)
+  where
+    none : a < 0 → ⊥
+    none h = omega arith
+below a (suc b) h =
+    ap (λ (t : Bool). cond t (negsuc (suc b - suc a)) (pos (a - suc b))) (lt-ltb a (suc b) h) ∙ sym (ap (λ (x : ℕ). negℤ (pos x)) (one-more h))
+  where
+    one-more : a < suc b → suc b - a ≡ suc (suc b - suc a)
+    one-more h = omega arith
+
+above : (a b : ℕ) → b ≤ a → pos a +ℤ negℤ (pos b) ≡ pos (a - b)
+above a zero h = ap pos same
+  where
+    same : a + 0 ≡ a - 0
+    same = omega arith
+above a (suc b) h = ap (λ (t : Bool). cond t (negsuc (suc b - suc a)) (pos (a - suc b))) (le-ltb a (suc b) h)
+
+size-signed : (s : Bool) (n : ℕ) → natAbs (signed s n) ≡ n
+size-signed false n = refl
+size-signed true zero = refl
+size-signed true (suc n) = refl
+
+-- ---- x has the whole value z, at most B in size
+pub record Within (x : Float) (z : ℤ) (B : ℕ) : Type 0 where
+  pub whole : IsWhole x z
+  pub small : whole .size ≤ B
+
+pub within : {x : Float} {z : ℤ} (B : ℕ) → IsWhole x z → natAbs z ≤ B → Within x z B
+within B w h = record { whole = w; small = subst (λ (n : ℕ). n ≤ B) (sym (ap natAbs (w .is)) ∙ size-signed (w .sign) (w .size)) h }
+
+pub index-within : (i : ℕ) → i < 32768 → Within (indexOf i) (pos i) 32767
+unfolding ofInt
+index-within i h =
+    record { whole = record { sign = false; size = i; value = round-whole binary32 false i (omega arith); is = refl }; small = omega arith }
+
+rounded : (s : Bool) (n : ℕ) (z : ℤ) (B : ℕ) → n ≤ B → B ≤ 2 ^ 24 → signed s n ≡ z → Within (round binary32 s n 1) z B
+rounded s n z B h k e = record { whole = record { sign = s; size = n; value = round-whole binary32 s n (le-trans h k); is = e }; small = h }
+
+-- ---- the product
+plain : (a b c : ℕ) → a * 1 ≡ b * c → a ≡ b * c
+plain a b c h = sym (mul-one a) ∙ h
+
+mul-of : (x y : Float) (s t : Bool) (a b : ℕ) → HasValue x s a 1 → HasValue y t b 1 → mul binary32 x y ≡ round binary32 (unlike s t) (a * b) 1
+unfolding mul
+mul-of nan y s t a b p q = absurd p
+mul-of (inf u) y s t a b p q = absurd p
+mul-of (fin u m e) nan s t a b p q = absurd q
+mul-of (fin u m e) (inf v) s t a b p q = absurd q
+mul-of (fin u m e) (fin v n d) s t a b p q =
+    (λ i. round binary32 (unlike (p .0 i) (q .0 i)) (m * up e * (n * up d)) (down e * down d))
+    ∙ round-same binary32 (unlike s t) (m * up e * (n * up d)) (down e * down d) (a * b) 1 (mul-pos (down-pos e) (down-pos d)) (zero-lt-suc 0)
+    (mul-one (m * up e * (n * up d))
+    ∙ (λ i. plain (m * up e) a (down e) (p .1) i * plain (n * up d) b (down d) (q .1) i)
+    ∙ mul-mul-mul-comm a (down e) b (down d))
+
+pub mul-within : {x y : Float} {a b : ℤ} {A B : ℕ} → Within x a A → Within y b B → A * B ≤ 2 ^ 24 → Within (mul binary32 x y) (a *ℤ b) (A * B)
+mul-within {x} {y} {a} {b} {A} {B} v w h =
+    let p = v .whole in
+    let q = w .whole in
+    subst (λ (r : Float). Within r (a *ℤ b) (A * B)) (sym (mul-of x y (p .sign) (q .sign) (p .size) (q .size) (p .value) (q .value)))
+    (rounded (unlike (p .sign) (q .sign)) (p .size * q .size) (a *ℤ b) (A * B) (mul-le-mul (v .small) (w .small)) h
+    (signed-mul (p .sign) (q .sign) (p .size) (q .size) ∙ (λ i. p .is i *ℤ q .is i)))
+
+-- ---- the sum
+-- a common factor of both and of the divisor leaves the sum
+sum-scaled : (s t : Bool) (a b c : ℕ) → 0 < c → sum binary32 s (a * c) t (b * c) c ≡ sum binary32 s a t b 1
+unfolding sum
+sum-scaled s t a b c C = λ i. cond (Bool·beq s t) (added i) (cond (tests a b i) (taken t a b i) (taken-away i))
+  where
+    added : round binary32 s (a * c + b * c) c ≡ round binary32 s (a + b) 1
+    added = round-same binary32 s (a * c + b * c) c (a + b) 1 C (zero-lt-suc 0) (mul-one (a * c + b * c) ∙ sym (add-mul a b c))
+
+    taken : (u : Bool) (a b : ℕ) → round binary32 u (b * c - a * c) c ≡ round binary32 u (b - a) 1
+    taken u a b =
+        round-same binary32 u (b * c - a * c) c (b - a) 1 C (zero-lt-suc 0)
+        (mul-one (b * c - a * c) ∙ (λ i. mul-comm b c i - mul-comm a c i) ∙ sym (mul-sub c b a) ∙ mul-comm c (b - a))
+
+    same : (p q : Bool) → (T p → T q) → (T q → T p) → p ≡ q
+    same true true f g = refl
+    same true false f g = absurd (f tt)
+    same false true f g = absurd (g tt)
+    same false false f g = refl
+
+    tests : (a b : ℕ) → ltb (a * c) (b * c) ≡ ltb a b
+    tests a b =
+        same (ltb (a * c) (b * c)) (ltb a b) (λ h. lt→ltb a b (lt-of-mul-lt-mul-right c (ltb→lt (a * c) (b * c) h)))
+        (λ h. lt→ltb (a * c) (b * c) (mul-lt-mul-of-pos-right (ltb→lt a b h) C))
+
+    taken-away : round binary32 (s && ltb (b * c) (a * c)) (a * c - b * c) c ≡ round binary32 (s && ltb b a) (a - b) 1
+    taken-away = ap (λ (u : Bool). round binary32 (s && u) (a * c - b * c) c) (tests b a) ∙ taken (s && ltb b a) b a
+
+add-of : (x y : Float) (s t : Bool) (a b : ℕ) → HasValue x s a 1 → HasValue y t b 1 → add binary32 x y ≡ sum binary32 s a t b 1
+unfolding add
+add-of nan y s t a b p q = absurd p
+add-of (inf u) y s t a b p q = absurd p
+add-of (fin u m e) nan s t a b p q = absurd q
+add-of (fin u m e) (inf v) s t a b p q = absurd q
+add-of (fin u m e) (fin v n d) s t a b p q =
+    (λ i. sum binary32 (p .0 i) (left i) (q .0 i) (right i) (down e * down d)) ∙ sum-scaled s t a b (down e * down d) (mul-pos (down-pos e) (down-pos d))
+  where
+    left : m * up e * down d ≡ a * (down e * down d)
+    left = ap (λ (z : ℕ). z * down d) (plain (m * up e) a (down e) (p .1)) ∙ mul-assoc a (down e) (down d)
+
+    right : n * up d * down e ≡ b * (down e * down d)
+    right = ap (λ (z : ℕ). z * down e) (plain (n * up d) b (down d) (q .1)) ∙ mul-assoc b (down d) (down e) ∙ ap (λ (z : ℕ). b * z) (mul-comm (down d) (down e))
+
+sum-within : (s t : Bool) (a b B : ℕ) → a + b ≤ B → B ≤ 2 ^ 24 → Within (sum binary32 s a t b 1) (signed s a +ℤ signed t b) B
+unfolding sum
+sum-within false false a b B h k = rounded false (a + b) (pos (a + b)) B h k refl
+sum-within true true a b B h k = rounded true (a + b) (negℤ (pos a) +ℤ negℤ (pos b)) B h k (negℤ-+ℤ (pos a) (pos b))
+sum-within false true a b B h k = go (ltb a b) (ltb→lt a b) (nltb→le a b)
+  where
+    go : (t : Bool) → (T t → a < b) → (T (not t) → b ≤ a) → Within (cond t (round binary32 true (b - a) 1) (round binary32 false (a - b) 1)) (pos a +ℤ negℤ (pos b)) B
+    go true l g = rounded true (b - a) (pos a +ℤ negℤ (pos b)) B (omega arith) k (sym (below a b (l tt)))
+    go false l g = rounded false (a - b) (pos a +ℤ negℤ (pos b)) B (omega arith) k (sym (above a b (g tt)))
+sum-within true false a b B h k = go (ltb a b) (ltb b a) (ltb→lt a b) (ltb→lt b a) (nltb→le a b) (nltb→le b a)
+  where
+    swapped : pos b +ℤ negℤ (pos a) ≡ negℤ (pos a) +ℤ pos b
+    swapped = +ℤ-comm (pos b) (negℤ (pos a))
+
+    zeros : a ≤ b → b ≤ a → a - b ≡ b - a
+    zeros l m = omega arith
+
+    go : (t u : Bool) → (T t → a < b) → (T u → b < a) → (T (not t) → b ≤ a) → (T (not u) → a ≤ b)
+        → Within (cond t (round binary32 false (b - a) 1) (round binary32 u (a - b) 1)) (negℤ (pos a) +ℤ pos b) B
+    go true u l m n o = rounded false (b - a) (negℤ (pos a) +ℤ pos b) B (omega arith) k (sym (above b a (omega (arith, l tt))) ∙ swapped)
+    go false true l m n o = rounded true (a - b) (negℤ (pos a) +ℤ pos b) B (omega arith) k (sym (below b a (m tt)) ∙ swapped)
+    go false false l m n o =
+        rounded false (a - b) (negℤ (pos a) +ℤ pos b) B (omega arith) k (ap pos (zeros (o tt) (n tt)) ∙ sym (above b a (o tt)) ∙ swapped)
+
+pub add-within : {x y : Float} {a b : ℤ} {A B : ℕ} → Within x a A → Within y b B → A + B ≤ 2 ^ 24 → Within (add binary32 x y) (a +ℤ b) (A + B)
+add-within {x} {y} {a} {b} {A} {B} v w h =
+    let p = v .whole in
+    let q = w .whole in
+    let fine : p .size + q .size ≤ A + B = omega (arith, v .small, w .small) in
+    subst (λ (r : Float). Within r (a +ℤ b) (A + B)) (sym (add-of x y (p .sign) (q .sign) (p .size) (q .size) (p .value) (q .value)))
+    (subst (λ (z : ℤ). Within (sum binary32 (p .sign) (p .size) (q .sign) (q .size) 1) z (A + B)) (λ i. p .is i +ℤ q .is i)
+    (sum-within (p .sign) (q .sign) (p .size) (q .size) (A + B) fine h))

@@ -1,0 +1,3 @@
+-- The definitions that the contracts cite: the position, and the case in which it is exact.
+pub mod Method
+pub mod Whole

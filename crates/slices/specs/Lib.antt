@@ -1,0 +1,3 @@
+-- The definitions that the contracts cite: the rank rule, and the time of a rank.
+pub mod Ranks
+pub mod Times
