@@ -37,7 +37,7 @@ pub four-bytes : (s : List ℕ) (at a b c d : ℕ)
 four-bytes s at a b c d = simp (add-zero, and-true)
 
 -- rule 2 asks of both orders, and the order of a file is the one in which it passes
-either : (s : List ℕ) → (holdsIn Little s || holdsIn Big s) ≡ holdsIn (orderOf s) s
+pub either : (s : List ℕ) → (holdsIn Little s || holdsIn Big s) ≡ holdsIn (orderOf s) s
 unfolding orderOf
 either s = by (holdsIn Little s) refl
   where
