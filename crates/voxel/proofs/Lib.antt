@@ -1,0 +1,5 @@
+pub mod Sized
+pub mod Locating
+pub mod Accepted
+pub mod Indexes
+pub mod Theorems

@@ -1,0 +1,79 @@
+-- Where a voxel's bytes are, and the bytes themselves (01-scope.md, "Voxels and byte order", rules 16 and 17).
+use Prim.Native.Nat.{ℕ, _+_, _*_, _/_}
+use mathlib.Core.Bool.{Bool, false, not}
+use mathlib.Core.List.{List, [], _∷_, _++_}
+use lib.Dec.{ltb}
+use lib.ListN.{length, take, drop}
+use Rattle.refusal.specs.declared.Verdict.{Verdict}
+use Rattle.refusal.specs.declared.Verdict.the-variants.{Accepted, Refused}
+use Rattle.refusal.specs.Table.{Row, row, verdict}
+use Rattle.offset.specs.Offset.{wholeOf}
+use Rattle.grid.specs.Grid.{within, rank}
+use Rattle.grid.specs.Axes.{extent, sevenAxes}
+use Rattle.header.specs.declared.Header.{Header}
+use Rattle.header.specs.declared.Kind.{Kind}
+use Rattle.header.specs.declared.Kind.the-variants.{Single, Pair}
+use Rattle.rules.specs.declared.Image.{Image}
+use Rattle.rules.specs.Rules.{axisCount, imageOf, shapeOfRecord, recordRows}
+use Rattle.reader.specs.Reading.{readingOf}
+use Rattle.voxel.specs.declared.Extent.{Extent}
+use Rattle.voxel.specs.declared.Located.{Located}
+use Rattle.voxel.specs.declared.Located.the-variants.{At, Unlocated}
+
+-- rule 16: a pair's image file is shorter than its voxel offset and image bytes
+abbrev pub imageCut : Kind → ℕ → Image → Bool
+imageCut Single len image = false
+imageCut Pair len image = ltb len (image .offset + image .bytes)
+
+-- "Seven indexes; those after dim[0] must be 0": the seven lengths, 1 past dim[0]
+abbrev pub lengthsOf : Header → List ℕ
+lengthsOf h = sevenAxes (h .dim) (axisCount (h .dim))
+
+-- the bytes of a voxel, bitpix / 8
+abbrev pub voxelBytes : Header → ℕ
+voxelBytes h = extent (h .intent .bitpix) / 8
+
+-- 16, and then 17: an index outside its axis
+abbrev pub imageRows : Header → ℕ → List ℕ → List Row
+imageRows h len index =
+    row 16 (imageCut (h .kind) len (imageOf (shapeOfRecord h))) 0
+    ∷ row 17 (not (within (lengthsOf h) index)) 0
+    ∷ []
+
+-- What is asked of a record, the image file's length and seven indexes. The record's own rules, 2 and 5 to 10, come first: an
+-- accepted file's record passes them, so that 16 and 17 alone decide (see `accepted-located` in proofs/Theorems.antt).
+abbrev pub voxelRows : Header → ℕ → List ℕ → List Row
+voxelRows h len index = recordRows h ++ imageRows h len index
+
+-- "The place is vox_offset + bytes × (i1 + dim[1] × (i2 + dim[2] × (i3 + ..)))."
+abbrev pub extentOf : Header → List ℕ → Extent
+extentOf h index =
+    record {
+      place = wholeOf (h .scale .«vox_offset») + voxelBytes h * rank (lengthsOf h) index;
+      length = voxelBytes h;
+    }
+
+abbrev pub locatedAfter : Verdict → Located → Located
+locatedAfter Accepted l = l
+locatedAfter (Refused r) l = Unlocated r
+
+-- "One call answers the place and length, or the refusal": of a record that was read before,
+unfoldable pub locatedIn : Header → ℕ → List ℕ → Located
+locatedIn h len index = locatedAfter (verdict (voxelRows h len index)) (At (extentOf h index))
+
+-- and of files: 1..15 first
+unfoldable pub locatedOf : List ℕ → List ℕ → List ℕ → Located
+locatedOf file image index = locatedAfter (readingOf file .verdict) (locatedIn (readingOf file .header) (length image) index)
+
+-- "part of the file or of the image file, whichever holds them: the first for a single file, the second for a pair"
+abbrev pub holder : Kind → List ℕ → List ℕ → List ℕ
+holder Single file image = file
+holder Pair file image = image
+
+abbrev pub partOf : Located → List ℕ → List ℕ
+partOf (At e) l = take (e .length) (drop (e .place) l)
+partOf (Unlocated r) l = []
+
+-- "In another the voxel's bytes are handed back"
+unfoldable pub voxelOf : List ℕ → List ℕ → List ℕ → List ℕ
+voxelOf file image index = partOf (locatedOf file image index) (holder (readingOf file .header .kind) file image)
