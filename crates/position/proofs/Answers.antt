@@ -1,0 +1,82 @@
+-- One law for each answer: the tests that lead to it. Where rules 17 and sform_code pass, the answer is what the crate affine places.
+-- Assumes nothing.
+use mathlib.Core.Path.{_≡_, refl, sym, ap}
+use mathlib.Core.Bool.{Bool, true, false, not, cond, _&&_, _||_, and-true, and-eq-true-iff}
+use mathlib.Core.List.{List, [], _∷_}
+use Prim.Native.Nat.{ℕ, _≤_, _<_}
+use native.Mathlib.Omega.{arith}
+use borrow.Author.Tests.{ltb-true, le-leb, lt-leb}
+use lib.Dec.{ltb}
+use lib.IntN.{ℤ, pos}
+use lib.Signed.{leZ}
+use Rattle.refusal.specs.declared.Refusal.{Refusal}
+use Rattle.refusal.specs.declared.Verdict.the-variants.{Accepted, Refused as Breaks}
+use Rattle.refusal.specs.Table.{refusal, verdict}
+use Rattle.grid.specs.Grid.{within}
+use Rattle.grid.specs.Axes.{dimAt, extent}
+use Rattle.rules.specs.Rules.{axisCount}
+use Rattle.header.specs.declared.Header.{Header}
+use Rattle.reader.specs.Reading.{readingOf}
+use Rattle.affine.specs.declared.Position.{Position}
+use Rattle.affine.specs.declared.Placed.{Placed}
+use Rattle.affine.specs.declared.Placed.the-variants.{At as Located, NoPosition}
+use Rattle.affine.specs.Method.{placedAt, positionOf}
+use Rattle.position.specs.declared.Positioned.{Positioned}
+use Rattle.position.specs.declared.Positioned.the-variants.{At, Refused}
+use Rattle.position.specs.Positions.{lengthAt, threeAxes, SmallIndex, resultsIn, finiteRows, finiteResults, positionedBy, positionIn, positionAt}
+
+-- what affine places, as an answer
+abbrev pub answerOf : Placed → Positioned
+answerOf (Located p) = At p
+answerOf NoPosition = Refused (refusal 23 0)
+
+abbrev pub placedIn : Header → ℕ → ℕ → ℕ → Placed
+placedIn h i j k = positionOf (h .rows .«srow_x») (h .rows .«srow_y») (h .rows .«srow_z») i j k
+
+-- ---- rule 17's axes and indexes
+pub length-stated : (dim : List ℤ) (axis : ℕ) → axis ≤ axisCount dim → extent (dimAt dim axis) ≡ lengthAt dim axis
+length-stated dim axis h = rw (le-leb axis (axisCount dim) h)
+
+pub length-past : (dim : List ℤ) (axis : ℕ) → axisCount dim < axis → 1 ≡ lengthAt dim axis
+length-past dim axis h = rw (lt-leb axis (axisCount dim) h)
+
+module _ (a b c i j k : ℕ) where
+  pub three-within : (ltb i a && (ltb j b && ltb k c)) ≡ within (a ∷ b ∷ c ∷ []) (i ∷ j ∷ k ∷ [])
+  unfolding within
+  three-within = ap (λ t. ltb i a && (ltb j b && t)) (sym (and-true (ltb k c)))
+
+  pub small-index : a ≤ 32767 → b ≤ 32767 → c ≤ 32767 → (ltb i a && (ltb j b && ltb k c)) ≡ true → SmallIndex i j k
+  small-index ha hb hc e =
+      let p = and-eq-true-iff (ltb i a) (ltb j b && ltb k c) .0 e in
+      let q = and-eq-true-iff (ltb j b) (ltb k c) .0 (p .1) in
+      record { first = omega (arith, ltb-true i a (p .0)); second = omega (arith, ltb-true j b (q .0)); third = omega (arith, ltb-true k c (q .1)) }
+
+-- ---- a record's answers
+module _ (h : Header) (i j k : ℕ) where
+  pub position-outside : within (threeAxes (h .dim)) (i ∷ j ∷ k ∷ []) ≡ false → Refused (refusal 17 0) ≡ positionIn h i j k
+  unfolding positionIn verdict
+  position-outside o = simp o
+
+  module _ (inside : within (threeAxes (h .dim)) (i ∷ j ∷ k ∷ []) ≡ true) where
+    pub position-unset : leZ (h .quatern .«sform_code») (pos 0) ≡ true → Refused (refusal 23 0) ≡ positionIn h i j k
+    unfolding positionIn verdict
+    position-unset e = simp (inside, e)
+
+    pub position-placed : leZ (h .quatern .«sform_code») (pos 0) ≡ false → answerOf (placedIn h i j k) ≡ positionIn h i j k
+    unfolding positionIn verdict positionOf placedAt
+    position-placed e = simp (inside, e) (go (finiteRows h) (finiteResults (resultsIn h i j k)) (resultsIn h i j k))
+      where
+        go : (f g : Bool) (p : Position) → answerOf (cond f (cond g (Located p) NoPosition) NoPosition) ≡ positionedBy (cond (not f || not g) (Breaks (refusal 23 0)) Accepted) p
+        go true true p = refl
+        go true false p = refl
+        go false g p = refl
+
+-- ---- a file's answers
+module _ (file : List ℕ) (i j k : ℕ) where
+  pub file-refused : (r : Refusal) → readingOf file .verdict ≡ Breaks r → Refused r ≡ positionAt file i j k
+  unfolding positionAt
+  file-refused r e = rw e
+
+  pub file-answered : readingOf file .verdict ≡ Accepted → positionIn (readingOf file .header) i j k ≡ positionAt file i j k
+  unfolding positionAt
+  file-answered e = rw e

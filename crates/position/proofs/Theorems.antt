@@ -1,0 +1,145 @@
+-- What holds of every position: its three values are finite; and in the case that 01-scope.md states it is the exact whole number. Of a record,
+-- and of every file by its record: `position_in` and `position_of` answer what the theorems speak of. Assumes nothing.
+use mathlib.Core.Path.{_≡_, refl, sym, ap, subst, _∙_}
+use mathlib.Core.Bool.{Bool, true, false, not, cond, _&&_, _||_, and-eq-true-iff, false≢true}
+use mathlib.Core.List.{List, [], _∷_}
+use Prim.Native.Nat.{ℕ, _+_, _*_, _<_}
+use native.Mathlib.Omega.{arith}
+use borrow.Author.Tests.{ltb-true}
+use lib.Dec.{leb, ltb}
+use lib.IntN.{ℤ, pos}
+use lib.Signed.{leZ}
+use lib.Ieee.Scale.{finite}
+use mir.Syntax.{w16}
+use mir.Val.{toZ}
+use Rattle.field.specs.declared.Order.{Order}
+use Rattle.field.specs.declared.Order.the-variants.{Little}
+use Rattle.field.specs.Numbers.{u16At, i16sAt}
+use Rattle.refusal.specs.declared.Verdict.{Verdict}
+use Rattle.refusal.specs.declared.Verdict.the-variants.{Accepted, Refused as Breaks}
+use Rattle.refusal.specs.Table.{Row, verdict}
+use Rattle.refusal.proofs.Rows.{Clear, none, one, accepted-clear}
+use Rattle.extension.specs.Walk.{Walked, listed, stopped}
+use Rattle.grid.specs.Grid.{within}
+use Rattle.grid.specs.Axes.{dimAt, extent}
+use Rattle.grid.proofs.Voxels.{within-both}
+use Rattle.header.specs.declared.Header.{Header}
+use Rattle.header.specs.Fields.{headerOf}
+use Rattle.rules.specs.Rules.{axisCount}
+use Rattle.reader.specs.File.{orderOf, judgement}
+use Rattle.reader.specs.Reading.{readingBy, readingOf, IsAccepted}
+use Rattle.affine.specs.declared.Position.{Position}
+use Rattle.affine.specs.declared.Placed.{Placed}
+use Rattle.affine.specs.declared.Placed.the-variants.{At as Located, NoPosition}
+use Rattle.affine.specs.Whole.{IsWhole, WholeRow, exactOf, PlacedExactly}
+use Rattle.affine.proofs.Theorems.{position-exact}
+use Rattle.position.specs.declared.Positioned.{Positioned}
+use Rattle.position.specs.declared.Positioned.the-variants.{At, Refused}
+use Rattle.position.specs.Positions.{lengthAt, threeAxes, resultsIn, finiteRows, finiteResults, positionRows, positionedBy, positionIn, answeredBy, positionAt}
+use Rattle.position.proofs.Answers.{answerOf, placedIn, position-placed, file-answered}
+
+-- ---- the stated case
+-- "the first three numbers of each row are whole and at most 64 in size, and its last is whole and at most 8,388,608 in size"
+pub record WholeRows (h : Header) : Type 0 where
+  pub x : WholeRow (h .rows .«srow_x»)
+  pub y : WholeRow (h .rows .«srow_y»)
+  pub z : WholeRow (h .rows .«srow_z»)
+
+-- an answer that is the position of three whole numbers
+abbrev pub PositionedExactly : Positioned → ℤ → ℤ → ℤ → Type 0
+PositionedExactly (Refused r) x y z = ⊥
+PositionedExactly (At p) x y z = IsWhole (p .x) x × IsWhole (p .y) y × IsWhole (p .z) z
+
+-- "the position is the exact whole number"
+abbrev pub ExactAt : (h : Header) → WholeRows h → ℕ → ℕ → ℕ → Positioned → Type 0
+ExactAt h w i j k answer = PositionedExactly answer (exactOf (w .x) i j k) (exactOf (w .y) i j k) (exactOf (w .z) i j k)
+
+placed-exactly : (p : Placed) (x y z : ℤ) → PlacedExactly p x y z → PositionedExactly (answerOf p) x y z
+placed-exactly (Located p) x y z e = e
+placed-exactly NoPosition x y z e = absurd e
+
+-- an index is inside its axis, and sform_code is above 0
+pub record Answered (h : Header) (i j k : ℕ) : Type 0 where
+  pub inside : within (threeAxes (h .dim)) (i ∷ j ∷ k ∷ []) ≡ true
+  pub above : leZ (h .quatern .«sform_code») (pos 0) ≡ false
+
+pub position-in-exact : (h : Header) (w : WholeRows h) (i j k : ℕ) → Answered h i j k → i < 32768 → j < 32768 → k < 32768 → ExactAt h w i j k (positionIn h i j k)
+position-in-exact h w i j k a hi hj hk =
+    subst (ExactAt h w i j k) (position-placed h i j k (a .inside) (a .above))
+    (placed-exactly (placedIn h i j k) _ _ _ (position-exact (w .x) (w .y) (w .z) i j k hi hj hk))
+
+-- ---- the lengths of a file's axes
+half : (n : ℕ) → extent (toZ w16 n) < 32768
+half n = by (ltb n 32768) refl
+  where
+    by : (t : Bool) → ltb n 32768 ≡ t → extent (toZ w16 n) < 32768
+    by true e = rw e (ltb-true n 32768 e)
+    by false e = rw e (omega arith)
+
+axis-half : (dim : List ℤ) (axis : ℕ) → extent (dimAt dim axis) < 32768 → lengthAt dim axis < 32768
+axis-half dim axis h = go (leb axis (axisCount dim))
+  where
+    go : (t : Bool) → cond t (extent (dimAt dim axis)) 1 < 32768
+    go true = h
+    go false = omega arith
+
+abbrev ThreeHalf : List ℤ → Type 0
+ThreeHalf dim = (lengthAt dim 1 < 32768) × (lengthAt dim 2 < 32768) × (lengthAt dim 3 < 32768)
+
+read-half : (order : Order) (s : List ℕ) → ThreeHalf (i16sAt order s 40 8)
+read-half order s =
+    let dim = i16sAt order s 40 8 in
+    (axis-half dim 1 (half (u16At order s 42)), axis-half dim 2 (half (u16At order s 44)), axis-half dim 3 (half (u16At order s 46)))
+
+file-half : (file : List ℕ) → ThreeHalf (readingOf file .header .dim)
+unfolding readingOf headerOf
+file-half file = go (judgement file)
+  where
+    go : (w : Walked) → ThreeHalf (readingBy file w .header .dim)
+    go (listed xs) = read-half (orderOf file) file
+    go (stopped r) = read-half Little []
+
+-- In the stated case every accepted file has a position for each index inside its axes, and it is the exact whole number.
+pub file-position-exact : (file : List ℕ) (w : WholeRows (readingOf file .header)) (i j k : ℕ) → IsAccepted file → Answered (readingOf file .header) i j k
+    → ExactAt (readingOf file .header) w i j k (positionAt file i j k)
+file-position-exact file w i j k e a =
+    let h = readingOf file .header in
+    let f = file-half file in
+    let p = within-both _ _ i _ (a .inside) in
+    let q = within-both _ _ j _ (p .1) in
+    let r = within-both _ _ k _ (q .1) in
+    subst (ExactAt h w i j k) (file-answered file i j k e)
+    (position-in-exact h w i j k a (omega (arith, p .0, f .0)) (omega (arith, q .0, f .1)) (omega (arith, r .0, f .2)))
+
+-- ---- every position is finite
+positioned-is : (v : Verdict) (q p : Position) → positionedBy v q ≡ At p → (v ≡ Accepted) × (q ≡ p)
+positioned-is Accepted q p e = (refl, cc)
+positioned-is (Breaks r) q p e = let z : _≡_ {A = ℕ} 0 1 = cc in absurd (omega arith)
+
+second-clear : {a b : Row} → Clear (a ∷ b ∷ []) → b .test ≡ false
+second-clear (one e (one f none)) = f
+
+last-holds : (a b : Bool) → (a || not b) ≡ false → b ≡ true
+last-holds true b e = absurd (false≢true (sym e))
+last-holds false true e = refl
+last-holds false false e = sym e
+
+abbrev pub IsFinite : Position → Type 0
+IsFinite p = (finite (p .x) ≡ true) × (finite (p .y) ≡ true) × (finite (p .z) ≡ true)
+
+pub position-in-finite : (h : Header) (i j k : ℕ) (p : Position) → positionIn h i j k ≡ At p → IsFinite p
+unfolding positionIn
+position-in-finite h i j k p e =
+    let r = positioned-is (verdict (positionRows h i j k)) (resultsIn h i j k) p e in
+    let all = last-holds (leZ (h .quatern .«sform_code») (pos 0) || not (finiteRows h)) _ (second-clear (accepted-clear (positionRows h i j k) (r .0))) in
+    subst IsFinite (r .1)
+    (let two = and-eq-true-iff _ _ .0 all in let one = and-eq-true-iff _ _ .0 (two .0) in (one .0, one .1, two .1))
+
+answered-is : (v : Verdict) (x : Positioned) (p : Position) → answeredBy v x ≡ At p → x ≡ At p
+answered-is Accepted x p e = e
+answered-is (Breaks r) x p e = let z : _≡_ {A = ℕ} 0 1 = cc in absurd (omega arith)
+
+pub file-position-finite : (file : List ℕ) (i j k : ℕ) (p : Position) → positionAt file i j k ≡ At p → IsFinite p
+unfolding positionAt
+file-position-finite file i j k p e =
+    position-in-finite (readingOf file .header) i j k p (answered-is (readingOf file .verdict) (positionIn (readingOf file .header) i j k) p e)

@@ -1,0 +1,2 @@
+-- A law that the functions' proofs cite.
+pub mod Numbers

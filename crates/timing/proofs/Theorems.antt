@@ -1,0 +1,143 @@
+-- What holds of every slice answer: a timed one has a rank below the number of acquired slices, and a time that is finite and one rounding of
+-- the exact product; and a slice outside start..end is padding. Of a record, and of every file by its record: `slice_in` and `slice_at` answer what the
+-- theorems speak of. Assumes nothing.
+use mathlib.Core.Path.{_≡_, refl, sym, ap, subst, _∙_}
+use mathlib.Core.Bool.{Bool, true, false, cond, not, _||_, or-true, false≢true}
+use mathlib.Core.List.{List, []}
+use mathlib.Core.Logic.{_⊎_, inl, inr}
+use Prim.Native.Nat.{ℕ, _*_, _≤_, _<_}
+use native.Mathlib.Omega.{arith}
+use borrow.Author.Tests.{not-false, leb-false, ltb-true, lt-ltb}
+use lib.Dec.{leb, ltb}
+use lib.Ieee.{Float, binary32, ofBits, round}
+use lib.Ieee.Positive.{num, den}
+use lib.Ieee.Scale.{finite}
+use mir.Syntax.{w16}
+use mir.Val.{toZ}
+use Rattle.field.specs.declared.Order.the-variants.{Little}
+use Rattle.field.specs.Numbers.{u16At}
+use Rattle.refusal.specs.declared.Verdict.{Verdict}
+use Rattle.refusal.specs.declared.Verdict.the-variants.{Accepted, Refused as Breaks}
+use Rattle.refusal.specs.Table.{refusal}
+use Rattle.extension.specs.Walk.{Walked, listed, stopped}
+use Rattle.grid.specs.Axes.{extent}
+use Rattle.header.specs.declared.Header.{Header}
+use Rattle.header.specs.Fields.{headerOf}
+use Rattle.reader.specs.File.{orderOf, judgement}
+use Rattle.reader.specs.Reading.{readingBy, readingOf, IsAccepted}
+use Rattle.slices.specs.declared.Time.the-variants.{Finite, Infinite}
+use Rattle.slices.specs.Ranks.{countOf}
+use Rattle.slices.specs.Times.{answerOf, timeOf}
+use Rattle.slices.proofs.RankLaws.{rank-below}
+use Rattle.slices.proofs.TimeLaws.{time-rounded-once}
+use Rattle.timing.specs.declared.Slice.{Slice}
+use Rattle.timing.specs.declared.Slice.the-variants.{Refused, Unstated, Padding, Timed}
+use Rattle.timing.specs.Slices.{isStated, sliceCount, firstSlice, lastSlice, rankAt, timeAt, firstOf, sliceIn, answeredBy, sliceOf}
+use Rattle.timing.proofs.Answers.{stated-has, acquired-within, slice-padding, file-answered}
+
+-- ---- the tests behind a timed answer
+pub record IsTimed (h : Header) (s r : ℕ) (t : Float) : Type 0 where
+  pub stated : isStated h ≡ true
+  pub first : firstSlice h ≤ s
+  pub last : s ≤ lastSlice h
+  pub rank : rankAt h s ≡ r
+  pub time : timeAt h s ≡ t
+  pub reached : finite (timeAt h s) ≡ true
+
+abbrev hasTime : Slice → Bool
+hasTime (Timed r t) = true
+hasTime (Refused r) = false
+hasTime Unstated = false
+hasTime Padding = false
+
+passed : (t : Bool) (x y z : Slice) → hasTime x ≡ false → hasTime z ≡ true → cond t x y ≡ z → (t ≡ false) × (y ≡ z)
+passed true x y z n m e = absurd (false≢true (sym n ∙ ap hasTime e ∙ m))
+passed false x y z n m e = (refl, e)
+
+finite-is : (x t : Float) → answerOf x ≡ Finite t → x ≡ t
+finite-is x t = go (finite x)
+  where
+    go : (b : Bool) → cond b (Finite x) Infinite ≡ Finite t → x ≡ t
+    go true e = cc
+    go false e = let z : _≡_ {A = ℕ} 0 1 = cc in absurd (omega arith)
+
+-- "rank × slice_duration, rounded once": of the exact product, where num d / den d is the value of the duration d
+abbrev pub RoundedOnce : Header → ℕ → Float → Type 0
+RoundedOnce h r t =
+    t ≡ round binary32 false (r * num (ofBits binary32 (h .display .«slice_duration»))) (den (ofBits binary32 (h .display .«slice_duration»)))
+
+-- ---- of a record
+module _ (h : Header) (s : ℕ) where
+  module _ (r : ℕ) (t : Float) (timed : sliceIn h s ≡ Timed r t) where
+    pub timed-is : IsTimed h s r t
+    unfolding sliceIn firstOf
+    timed-is =
+        let a = passed (not (isStated h)) _ _ (Timed r t) refl refl timed in
+        let b = passed (leb (sliceCount h) s) _ _ (Timed r t) refl refl (a .1) in
+        let c = passed (ltb s (firstSlice h) || ltb (lastSlice h) s) _ _ (Timed r t) refl refl (b .1) in
+        let d = passed (not (finite (timeAt h s))) _ _ (Timed r t) refl refl (c .1) in
+        let o = acquired-within s (firstSlice h) (lastSlice h) (c .0) in
+        let e : _≡_ {A = Slice} (Timed (rankAt h s) (timeAt h s)) (Timed r t) = d .1 in
+        record { stated = not-false _ (a .0); first = o .0; last = o .1; rank = cc; time = cc; reached = not-false _ (d .0) }
+
+    pub rank-below-count : r < countOf (firstSlice h) (lastSlice h)
+    rank-below-count =
+        let w = timed-is in
+        subst (λ n. n < countOf (firstSlice h) (lastSlice h)) (w .rank) (rank-below (h .scale .«slice_code») (firstSlice h) (lastSlice h) s (w .first) (w .last))
+
+    -- slice_end is a number of 16 bits
+    pub time-rounded : lastSlice h < 32768 → RoundedOnce h r t
+    unfolding timeOf
+    time-rounded l =
+        let w = timed-is in
+        let d = h .display .«slice_duration» in
+        let answer : answerOf (timeAt h s) ≡ Finite t = rw (w .reached) (ap Finite (w .time)) in
+        let rank : timeOf d (rankAt h s) ≡ timeOf d r = ap (timeOf d) (w .rank) in
+        sym (finite-is _ t (sym (time-rounded-once d r (omega (arith, rank-below-count)) (stated-has h (w .stated) .duration)) ∙ sym rank ∙ answer))
+
+  pub outside-padding : isStated h ≡ true → s < sliceCount h → (s < firstSlice h) ⊎ (lastSlice h < s) → sliceIn h s ≡ Padding
+  outside-padding e l (inl o) = sym (slice-padding h s e l (rw (lt-ltb s (firstSlice h) o)))
+  outside-padding e l (inr o) = sym (slice-padding h s e l (rw (lt-ltb (lastSlice h) s o) (or-true (ltb s (firstSlice h)))))
+
+-- ---- of a file
+-- the length that a field of 16 bits states
+half : (n : ℕ) → extent (toZ w16 n) < 32768
+half n = by (ltb n 32768) refl
+  where
+    by : (t : Bool) → ltb n 32768 ≡ t → extent (toZ w16 n) < 32768
+    by true e = rw e (ltb-true n 32768 e)
+    by false e = rw e (omega arith)
+
+last-half : (file : List ℕ) → lastSlice (readingOf file .header) < 32768
+unfolding readingOf headerOf
+last-half file = go (judgement file)
+  where
+    go : (w : Walked) → lastSlice (readingBy file w .header) < 32768
+    go (listed xs) = half (u16At (orderOf file) file 120)
+    go (stopped r) = half (u16At Little [] 120)
+
+read-by : (v : Verdict) (x z : Slice) → hasTime z ≡ true → answeredBy v x ≡ z → x ≡ z
+read-by Accepted x z m e = e
+read-by (Breaks r) x z m e = absurd (false≢true (ap hasTime e ∙ m))
+
+module _ (file : List ℕ) (s : ℕ) where
+  module _ (r : ℕ) (t : Float) (timed : sliceOf file s ≡ Timed r t) where
+    record-timed : sliceIn (readingOf file .header) s ≡ Timed r t
+    unfolding sliceOf
+    record-timed = read-by (readingOf file .verdict) (sliceIn (readingOf file .header) s) (Timed r t) refl timed
+
+    pub file-rank-below : r < countOf (firstSlice (readingOf file .header)) (lastSlice (readingOf file .header))
+    file-rank-below = rank-below-count (readingOf file .header) s r t record-timed
+
+    pub file-time-finite : finite t ≡ true
+    file-time-finite =
+        let w = timed-is (readingOf file .header) s r t record-timed in
+        sym (ap finite (w .time)) ∙ w .reached
+
+    pub file-time-rounded : RoundedOnce (readingOf file .header) r t
+    file-time-rounded = time-rounded (readingOf file .header) s r t record-timed (last-half file)
+
+  pub file-padding : IsAccepted file → isStated (readingOf file .header) ≡ true → s < sliceCount (readingOf file .header)
+      → (s < firstSlice (readingOf file .header)) ⊎ (lastSlice (readingOf file .header) < s)
+      → sliceOf file s ≡ Padding
+  file-padding a e l o = sym (file-answered file s a) ∙ outside-padding (readingOf file .header) s e l o

@@ -1,0 +1,67 @@
+use mathlib.Core.Bool.{_&&_}
+use lib.Dec.{leb}
+use mir.Syntax.{w16}
+use mir.Val.{toZ, ofZ}
+use Rattle.grid.specs.Axes.{dimAt}
+use Rattle.timing.specs.Slices.{acquires, isStated}
+use mathlib.Core.Path.{_≡_, ap, _∙_}
+use borrow.Author.Needs.{needs}
+use Rattle.timing.proofs.is_stated.Statement.{statement}
+use Rattle.timing.proofs.is_stated.Tie as tie
+
+start-same : (c : tie.After-struct-told) → toZ w16 (ofZ w16 (c .before .before .before .before .before .before .before .before .before .before .before .args .header .intent .«slice_start»)) ≡ c .before .before .before .before .before .before .before .before .before .before .before .args .header .intent .«slice_start»
+start-same c = search needs
+
+end-same : (c : tie.After-struct-told2) → toZ w16 (ofZ w16 (c .before .before .before .before .before .before .before .before .before .before .before .before .args .header .scale .«slice_end»)) ≡ c .before .before .before .before .before .before .before .before .before .before .before .before .args .header .scale .«slice_end»
+end-same c = search needs
+
+length-same : (c : tie.After-acquires-in-arg) → toZ w16 (ofZ w16 (dimAt (c .before .before .before .before .before .before .before .before .before .before .args .header .dim) (c .before .before .before .before .slice-dim .result))) ≡ dimAt (c .before .before .before .before .before .before .before .before .before .before .args .header .dim) (c .before .before .before .before .slice-dim .result)
+length-same c = search needs
+
+slice-dim-requires : tie.Need-slice-dim-requires
+slice-dim-requires c κs = search needs
+
+slice-aggregate-axis-count : tie.Need-slice-aggregate-axis-count
+slice-aggregate-axis-count c = search needs
+
+axis-count-requires : tie.Need-axis-count-requires
+axis-count-requires c κs = search needs
+
+is-positive-requires : tie.Need-is-positive-requires
+is-positive-requires c κs = search needs
+
+mul-acquires-in : tie.Need-mul-acquires-in
+mul-acquires-in c = search needs
+
+array-copy-out-acquires-in : tie.Need-array-copy-out-acquires-in
+array-copy-out-acquires-in c = search needs
+
+acquires-in-requires : tie.Need-acquires-in-requires
+acquires-in-requires c κs = search needs
+
+returns : tie.Need-returns
+unfolding isStated
+returns c =
+    let p = c .before .before .before .before in
+    let n = p .before in
+    let d = n .before .before in
+    let h = d .before .before .before .before .before .before .args .header in
+    let k = d .slice-dim .ensures .0 in
+    λ i.
+    leb 1 (k i) && leb (k i) 3 && leb (k i) (n .axis-count .ensures .0 i)
+    && p .is-positive .ensures i
+    && (leb 1 (h .scale .«slice_code») && leb (h .scale .«slice_code») 6)
+    && (c .acquires-in .ensures ∙ (λ j. acquires (start-same (c .before .before) j) (end-same (c .before) j) ((length-same (c .before .before .before) ∙ ap (dimAt (h .dim)) k) j))) i
+
+pub is-stated-spec : {M : Type 1} → statement M
+is-stated-spec =
+    tie.close
+    (tie.spec
+    slice-dim-requires
+    slice-aggregate-axis-count
+    axis-count-requires
+    is-positive-requires
+    mul-acquires-in
+    array-copy-out-acquires-in
+    acquires-in-requires
+    returns)
