@@ -1,0 +1,130 @@
+-- The extensions of a swapped file: their sizes and codes read in the other byte order as they did, so the walk over them lists the
+-- same spans (`walk-turned`).
+use Prim.Native.Nat.{ℕ, suc, _+_, _-_, _≤_}
+use mathlib.Core.Path.{_≡_, refl, sym, ap, _∙_}
+use mathlib.Core.List.{List, [], _∷_, _++_}
+use native.Mathlib.Omega.{arith}
+use lib.IntN.{pos, natAbs}
+use lib.ListN.{length, take, drop, length-drop}
+use lib.Seq.{take-at, drop-at}
+use Rattle.field.specs.declared.Order.{Order}
+use Rattle.field.specs.Numbers.{i32At, joined}
+use Rattle.extension.specs.declared.Span.{Span}
+use Rattle.extension.specs.Walk.{extensionLimit, spanAt, walk, listed}
+use Rattle.extension.specs.Pieces.{pieces, Whole, Wholes, none, one, spansFrom}
+use Rattle.extension.proofs.Pieces.{opened, walk-join, length-spansFrom}
+use Rattle.units.specs.Runs.{Run, run, turnRuns, spanOf}
+use Rattle.units.proofs.Runs.{length-turnRuns, length-own-runs, runs-append}
+use Rattle.byteswap.specs.Swap.{extensionRuns}
+use Rattle.byteswap.specs.Other.{other}
+use Rattle.byteswap.proofs.Places.{i32-same}
+
+-- runs between others: their bytes in the result are the old ones, turned round by these runs alone
+pub runs-middle : (before middle after : List Run) (l : List ℕ) → spanOf before + spanOf middle ≤ length l
+    → take (spanOf middle) (drop (spanOf before) (turnRuns (before ++ (middle ++ after)) l)) ≡ turnRuns middle (take (spanOf middle) (drop (spanOf before) l))
+runs-middle before middle after l h =
+    let d : List ℕ = drop (spanOf before) l in
+    let f : List ℕ = turnRuns before (take (spanOf before) l) in
+    let m : List ℕ = turnRuns middle (take (spanOf middle) d) in
+    let r : List ℕ = turnRuns after (drop (spanOf middle) d) in
+    let room : spanOf middle ≤ length d = rw length-drop (omega arith) in
+    rw (
+      runs-append before (middle ++ after) l,
+      drop-at f (turnRuns (middle ++ after) d) (spanOf before) (length-own-runs before l (omega arith)),
+      runs-append middle after d,
+    )
+    (take-at m r (spanOf middle) (length-own-runs middle d room))
+
+-- ---- One extension
+
+-- an extension with its size and code turned round
+abbrev pieceRuns : List ℕ → List Run
+pieceRuns x = run 4 2 ∷ run 1 (length x - 8) ∷ []
+
+abbrev turnedPiece : List ℕ → List ℕ
+turnedPiece x = turnRuns (pieceRuns x) x
+
+module _ (o : Order) (x : List ℕ) (w : Whole o x) where
+  piece-span : spanOf (pieceRuns x) ≡ length x
+  unfolding spanOf
+  piece-span = omega (arith, w .least)
+
+  room : spanOf (pieceRuns x) ≤ length x
+  room = omega (arith, piece-span)
+
+  size-same : i32At (other o) (turnedPiece x) 0 ≡ i32At o x 0
+  size-same = i32-same (pieceRuns x) x room o 0 refl
+
+  code-same : i32At (other o) (turnedPiece x) 4 ≡ i32At o x 4
+  code-same = i32-same (pieceRuns x) x room o 4 refl
+
+  length-same : length (turnedPiece x) ≡ length x
+  length-same = length-turnRuns (pieceRuns x) x
+
+  whole-same : Whole (other o) (turnedPiece x)
+  whole-same =
+      record {
+        size = size-same ∙ w .size ∙ ap pos (sym length-same);
+        least = rw length-same (w .least);
+        units = rw length-same (w .units);
+        code = rw code-same (w .code);
+      }
+
+  span-same : (at : ℕ) → spanAt (other o) at (turnedPiece x) ≡ spanAt o at x
+  span-same at = λ i. record { start = at; size = size-same i; code = code-same i }
+
+  -- the runs of its span turn it so, and leave what follows
+  piece-turned : (at : ℕ) (rs : List Run) (l : List ℕ)
+      → turnRuns (run 4 2 ∷ run 1 (natAbs (spanAt o at x .size) - 8) ∷ rs) (x ++ l) ≡ turnedPiece x ++ turnRuns rs l
+  piece-turned at rs l =
+      let n : natAbs (i32At o x 0) ≡ length x = ap natAbs (w .size) in
+      rw (
+        n,
+        runs-append (pieceRuns x) rs (x ++ l),
+        take-at x l (spanOf (pieceRuns x)) (sym piece-span),
+        drop-at x l (spanOf (pieceRuns x)) (sym piece-span),
+      )
+
+-- ---- All of them
+
+abbrev turnedPieces : List (List ℕ) → List (List ℕ)
+turnedPieces [] = []
+turnedPieces (x ∷ xs) = turnedPiece x ∷ turnedPieces xs
+
+length-pieces : (xs : List (List ℕ)) → length (turnedPieces xs) ≡ length xs
+length-pieces [] = refl
+length-pieces (x ∷ xs) = ap suc (length-pieces xs)
+
+runs-none : turnRuns [] [] ≡ []
+unfolding turnRuns
+runs-none = refl
+
+module _ (o : Order) where
+  wholes-same : {xs : List (List ℕ)} → Wholes o xs → Wholes (other o) (turnedPieces xs)
+  wholes-same none = none
+  wholes-same (one {x} w ws) = one (whole-same o x w) (wholes-same ws)
+
+  spans-same : (at : ℕ) {xs : List (List ℕ)} → Wholes o xs → spansFrom (other o) at (turnedPieces xs) ≡ spansFrom o at xs
+  unfolding spansFrom
+  spans-same at none = refl
+  spans-same at (one {x} {xs} w ws) =
+      λ i. span-same o x w at i ∷ (ap (λ (n : ℕ). spansFrom (other o) (at + n) (turnedPieces xs)) (length-same o x w) ∙ spans-same (at + length x) ws) i
+
+  joined-turned : (at : ℕ) {xs : List (List ℕ)} → Wholes o xs → turnRuns (extensionRuns (spansFrom o at xs)) (joined xs) ≡ joined (turnedPieces xs)
+  unfolding spansFrom
+  joined-turned at none = runs-none
+  joined-turned at (one {x} {xs} w ws) =
+      piece-turned o x w at (extensionRuns (spansFrom o (at + length x) xs)) (joined xs)
+      ∙ ap (λ (l : List ℕ). turnedPiece x ++ l) (joined-turned (at + length x) ws)
+
+  pub walk-turned : (left at : ℕ) (rest : List ℕ) (xs : List Span) → left ≤ extensionLimit → walk o left at rest ≡ listed xs
+      → walk (other o) left at (turnRuns (extensionRuns xs) rest) ≡ listed xs
+  walk-turned left at rest xs most e =
+      let p = opened o left at rest xs e in
+      let ps = pieces xs rest in
+      let n : length ps ≡ length xs = sym (length-spansFrom o at ps) ∙ ap length (p .spans) in
+      let turned : turnRuns (extensionRuns xs) rest ≡ joined (turnedPieces ps) =
+      (λ i. turnRuns (extensionRuns (sym (p .spans) i)) (sym (p .region) i)) ∙ joined-turned at (p .wholes) in
+      rw turned
+      (walk-join (other o) left at (wholes-same (p .wholes)) (omega (arith, length-pieces ps, p .few)) most (λ l. omega (arith, length-pieces ps, p .some l))
+      ∙ ap listed (spans-same at (p .wholes) ∙ p .spans))

@@ -1,0 +1,112 @@
+-- Swapping the byte order of a file in place. 01-scope.md, "Voxels and byte order": "Swapping turns round each 2- or 4-byte header
+-- field, unused numbers included, each extension's size and code, and each swap unit of the image. All else stays: text, private
+-- bytes, payloads, an image file's front, bytes after the image." So a file is one list of runs (crate units); a run of width 1 stays,
+-- and so does what follows the last run.
+use Prim.Native.Nat.{ℕ, _+_, _-_, _/_, _≤_, _<_}
+use mathlib.Core.Bool.{Bool, false, cond}
+use mathlib.Core.List.{List, [], _∷_, _++_}
+use lib.Dec.{ltb}
+use lib.IntN.{natAbs}
+use lib.ListN.{length}
+use Rattle.field.specs.declared.Order.{Order}
+use Rattle.field.specs.Numbers.{i16At}
+use Rattle.refusal.specs.declared.Verdict.{Verdict}
+use Rattle.refusal.specs.declared.Verdict.the-variants.{Accepted, Refused}
+use Rattle.refusal.specs.Table.{refusal}
+use Rattle.datatype.specs.declared.Datatype.{Datatype}
+use Rattle.datatype.specs.declared.Datatype.the-variants.{Known, Unknown}
+use Rattle.datatype.specs.Datatypes.{datatypeOf}
+use Rattle.extension.specs.declared.Span.{Span}
+use Rattle.extension.specs.Walk.{Walked, listed, stopped, firstPlace}
+use Rattle.extension.specs.Fills.{Fills}
+use Rattle.header.specs.declared.Kind.{Kind}
+use Rattle.header.specs.declared.Kind.the-variants.{Single, Pair}
+use Rattle.rules.specs.declared.Image.{Image}
+use Rattle.reader.specs.declared.Layout.{Layout}
+use Rattle.reader.specs.File.{layoutOf, regionEnd, judgement}
+use Rattle.units.specs.Runs.{Run, run, turnRuns, headerRuns}
+
+-- the swap unit of a datatype; one that the table lacks is refused before anything is turned (rule 6)
+abbrev pub unitOf : Datatype → ℕ
+unitOf (Known t) = t .unit
+unitOf Unknown = 1
+
+-- the swap unit of a file: that of its datatype, whatever its bitpix
+unfoldable pub unitIn : Order → List ℕ → ℕ
+unitIn order s = unitOf (datatypeOf (i16At order s 70))
+
+-- ---- What turns round
+
+-- "each extension's size and code"; its payload stays
+abbrev pub extensionRuns : List Span → List Run
+extensionRuns [] = []
+extensionRuns (x ∷ xs) = run 4 2 ∷ run 1 (natAbs (x .size) - 8) ∷ extensionRuns xs
+
+-- from the header's end to the end of the extension region. With no extensions all of it stays, the extender and private bytes;
+-- else the extender stays, and the extensions fill the rest.
+abbrev pub regionRuns : ℕ → List Span → List Run
+regionRuns end [] = run 1 (end - 348) ∷ []
+regionRuns end (x ∷ xs) = run 1 4 ∷ extensionRuns (x ∷ xs)
+
+-- "each swap unit of the image"
+abbrev pub imageRuns : Image → ℕ → List Run
+imageRuns image unit = run unit (image .bytes / unit) ∷ []
+
+-- a single file holds its image, behind the region; a pair's header file ends with the region
+abbrev pub ownImage : Kind → Image → ℕ → List Run
+ownImage Single image unit = imageRuns image unit
+ownImage Pair image unit = []
+
+-- a file of `len` bytes with these extensions
+unfoldable pub fileRuns : Kind → Image → ℕ → ℕ → List Span → List Run
+fileRuns kind image unit len xs = headerRuns ++ (regionRuns (regionEnd kind image len) xs ++ ownImage kind image unit)
+
+-- a pair's image file, whose front stays. "For a single file the image buffer is neither read nor changed."
+unfoldable pub imageFileRuns : Kind → Image → ℕ → List Run
+imageFileRuns Single image unit = []
+imageFileRuns Pair image unit = run 1 (image .offset) ∷ imageRuns image unit
+
+-- ---- What swapping answers, and what it leaves
+
+-- rule 16: a pair's image file is shorter than its voxel offset and image bytes
+abbrev pub cutImage : Kind → Image → ℕ → Bool
+cutImage Single image len = false
+cutImage Pair image len = ltb len (image .offset + image .bytes)
+
+abbrev pub unlessCut : Bool → Walked → Walked
+unlessCut cut (listed xs) = cond cut (stopped (refusal 16 0)) (listed xs)
+unlessCut cut (stopped r) = stopped r
+
+-- the extensions of a file that is to be swapped, where none of 1 to 16 holds; else the first refusal
+unfoldable pub swapList : List ℕ → List ℕ → Walked
+swapList file image = unlessCut (cutImage (layoutOf file .kind) (layoutOf file .image) (length image)) (judgement file)
+
+abbrev pub answerBy : Walked → Verdict
+answerBy (listed xs) = Accepted
+answerBy (stopped r) = Refused r
+
+abbrev pub turnedFile : Walked → Layout → List ℕ → List ℕ
+turnedFile (listed xs) l s = turnRuns (fileRuns (l .kind) (l .image) (unitIn (l .order) s) (length s) xs) s
+turnedFile (stopped r) l s = s
+
+abbrev pub turnedImage : Walked → Layout → List ℕ → List ℕ → List ℕ
+turnedImage (listed xs) l s image = turnRuns (imageFileRuns (l .kind) (l .image) (unitIn (l .order) s)) image
+turnedImage (stopped r) l s image = image
+
+-- the answer, and the two buffers afterwards; a refused swap changes neither
+unfoldable pub swapAnswer : List ℕ → List ℕ → Verdict
+swapAnswer file image = answerBy (swapList file image)
+
+unfoldable pub swappedFile : List ℕ → List ℕ → List ℕ
+swappedFile file image = turnedFile (swapList file image) (layoutOf file) file
+
+unfoldable pub swappedImage : List ℕ → List ℕ → List ℕ
+swappedImage file image = turnedImage (swapList file image) (layoutOf file) file image
+
+-- ---- What the loop over the extensions needs
+
+-- spans that stand one after the other from 352 on, in a file of `len` bytes
+pub record Placed (xs : List Span) (len : ℕ) : Type 0 where
+  pub end : ℕ
+  pub fills : Fills firstPlace end xs
+  pub room : 0 < length xs → end ≤ len
