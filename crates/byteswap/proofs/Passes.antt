@@ -87,7 +87,7 @@ module _ (s : List ℕ) (l : Layout) (p : Passes s l) where
   pub region-in : (348 ≤ endIn l s) × (endIn l s ≤ length s)
   region-in = region-bounds (l .kind) (l .image) (length s) (p .long) (p .outside) (p .whole)
 
-  pub unit-is : unitIn (l .order) s ≡ p .format .unit
+  unit-is : unitIn (l .order) s ≡ p .format .unit
   unfolding unitIn
   unit-is = ap unitOf (p .known)
 

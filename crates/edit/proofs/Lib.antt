@@ -1,0 +1,10 @@
+-- The laws behind the promises of src/lib.rt, and the theorems of demand 3 about the fresh file.
+pub mod Exchanging
+pub mod Storing
+pub mod Cutting
+pub mod Planning
+pub mod Deciding
+pub mod Splicing
+pub mod Keeping
+pub mod Rereading
+pub mod Theorems

@@ -1,0 +1,272 @@
+-- The splice: what the moves and stores of an edit leave is the settled buffer with the fresh file.
+use Prim.Native.Nat.{ℕ, _+_, _-_, _≤_, _<_, max}
+use mathlib.Core.Path.{_≡_, refl, sym, ap, _∙_}
+use mathlib.Core.Bool.{false}
+use mathlib.Core.List.{List, _∷_, _++_, append-assoc}
+use native.Mathlib.Omega.{arith}
+use borrow.Author.Tests.{lt-ltb}
+use lib.IntN.{ℤ}
+use lib.ListN.{length, take, drop, replicate, length-append, length-drop, take-append-drop}
+use lib.Seq.{length-take-le, take-at, drop-at, take-take, take-add, take-append-le, drop-append-le, take-append-add, drop-append-add}
+use mir.Syntax.{w32}
+use mir.Val.{SFits}
+use Rattle.field.specs.declared.Order.{Order}
+use Rattle.field.specs.Numbers.{bytesOf, joined}
+use Rattle.field.proofs.Stores.{length-bytesOf}
+use Rattle.offset.specs.Offset.{offsetBits}
+use Rattle.extension.specs.Walk.{firstPlace}
+use Rattle.extension.specs.Pieces.{Wholes, none, one}
+use Rattle.header.specs.declared.Kind.{Kind}
+use Rattle.header.specs.declared.Kind.the-variants.{Single, Pair}
+use Rattle.reader.specs.File.{orderOf, kindOf}
+use Rattle.buffer.specs.Put.{put}
+use Rattle.buffer.specs.Settled.{replaced, settled}
+use Rattle.buffer.proofs.Laws.{drop-take, length-put, put-left, put-append}
+use Rattle.buffer.proofs.Settled.{settled-put, settle}
+use Rattle.edit.specs.declared.Change.{Change}
+use Rattle.edit.specs.declared.Change.the-variants.{Append, Replace, Remove}
+use Rattle.edit.specs.declared.Plan.{Plan}
+use Rattle.edit.specs.Fresh.{endOf, extensionList, tailOf, exchange, outFrom, outTo, broughtIn, editedList, extenderFor, endFor, headFor, freshFile, freshOf}
+use Rattle.edit.specs.Outcome.{offersNegative}
+use Rattle.edit.specs.Planned.{newSize, bytesBefore, extenderBytes, planOf}
+use Rattle.edit.proofs.Exchanging.{joined-some, wholes-exchange, before-all, before-later, joined-exchange}
+use Rattle.edit.proofs.Storing.{stored-whole}
+use Rattle.edit.proofs.Cutting.{opens}
+use Rattle.edit.proofs.Planning.{length-extender, length-new, length-fresh, outBytes, places, out-inside, end-new, whole-new}
+use Rattle.edit.proofs.Deciding.{Allowed}
+
+-- ---- the new list
+
+brought-whole : (order : Order) (change : Change) (code : ℤ) (p : List ℕ) → SFits w32 code → offersNegative change code ≡ false
+    → newSize change (length p) < 2147483648 → Wholes order (broughtIn order change code p)
+brought-whole order Append code p f n h = one (stored-whole order code p f n h) none
+brought-whole order (Replace k) code p f n h = one (stored-whole order code p f n h) none
+brought-whole order (Remove k) code p f n h = none
+
+-- its extensions are whole
+pub edited-whole : (f : List ℕ) (room : ℕ) (change : Change) (code : ℤ) (p : List ℕ) → SFits w32 code → Allowed f room change code p
+    → Wholes (orderOf f) (editedList f change code p)
+unfolding editedList
+edited-whole f room change code p fits a =
+    let k = a .known in
+    let e = end-new f change (k .present) (k .cut) code p in
+    wholes-exchange (extensionList f) (broughtIn (orderOf f) change code p) (outFrom change (length (extensionList f))) (outTo change (length (extensionList f)))
+    (opens f (a .spans) (a .judged) .wholes) (brought-whole (orderOf f) change code p fits (k .offered) (omega (arith, a .end-limit, e)))
+
+-- its extender, told by where the region ends
+extender-is : {order : Order} {xs : List (List ℕ)} → Wholes order xs → extenderBytes (endFor xs) ≡ extenderFor xs
+extender-is none = refl
+extender-is (one {x} {xs} w ws) =
+    let s : 16 ≤ length (joined (x ∷ xs)) = joined-some (one w ws) (omega arith) in
+    rw (lt-ltb firstPlace (endFor (x ∷ xs)) (omega arith))
+
+-- ---- the fresh file's bytes
+
+-- extensions exchanged in a file of a front h, extensions and a tail t
+module _ (h : List ℕ) (xs ys : List (List ℕ)) (t : List ℕ) (i j : ℕ) (front : length h ≡ firstPlace) (le : i ≤ j) where
+  exchanged : (at old : ℕ) → at ≡ firstPlace + length (joined (take i xs)) → old ≡ length (joined (take j xs)) - length (joined (take i xs))
+      → replaced (h ++ (joined xs ++ t)) at old (joined ys) ≡ h ++ (joined (exchange xs i j ys) ++ t)
+  unfolding replaced
+  exchanged at old ea eo =
+      let a = length (joined (take i xs)) in
+      let b = length (joined (take j xs)) in
+      let r = joined xs ++ t in
+      let lab = before-later i j xs le in
+      let lb = before-all j xs in
+      let pa : at ≡ length h + a = omega arith in
+      let pb : at + old ≡ length h + b = omega arith in
+      let ta : take at (h ++ r) ≡ h ++ take a (joined xs) = rw (pa, take-append-add h r a, take-append-le a (joined xs) t (omega arith)) in
+      let db : drop (at + old) (h ++ r) ≡ drop b (joined xs) ++ t = rw (pb, drop-append-add h r b, drop-append-le b (joined xs) t lb) in
+      rw (ta, db, joined-exchange xs ys i j a b refl refl) (simp append-assoc)
+
+-- the extender, written between the header and the list
+extended : (h x e r : List ℕ) → length h ≡ 348 → length x ≡ 4 → length e ≡ 4 → put ((h ++ x) ++ r) 348 e ≡ h ++ (e ++ r)
+unfolding put
+extended h x e r lh lx le =
+    let n : 348 + length e ≡ 352 = omega arith in
+    let k : length (h ++ x) ≡ 352 = length-append h x ∙ omega arith in
+    rw (n, drop-at (h ++ x) r 352 k, append-assoc, take-at h (x ++ r) 348 lh)
+
+headed : (kind : Kind) (order : Order) (end : ℕ) (h r : List ℕ) → 112 ≤ length h → headFor kind order end (h ++ r) ≡ headFor kind order end h ++ r
+headed Single order end h r l =
+    let b = length-bytesOf order 4 (offsetBits end) in
+    put-append h 108 (bytesOf order 4 (offsetBits end)) r (omega arith)
+headed Pair order end h r l = refl
+
+headed-settled : (kind : Kind) (order : Order) (end : ℕ) (l : List ℕ) (len : ℕ) (g : List ℕ) → 112 ≤ length g
+    → headFor kind order end (settled l len g) ≡ settled l len (headFor kind order end g)
+headed-settled Single order end l len g h =
+    let b = length-bytesOf order 4 (offsetBits end) in
+    settled-put l len g 108 (bytesOf order 4 (offsetBits end)) (omega arith)
+headed-settled Pair order end l len g h = refl
+
+-- a file shorter than the fresh one is settled over in the same way whatever its length
+settled-longer : (l : List ℕ) (len : ℕ) (g : List ℕ) → firstPlace ≤ length g → settled l (max len firstPlace) g ≡ settled l len g
+unfolding settled
+settled-longer l len g h =
+    let z : max len firstPlace - length g ≡ len - length g = omega arith in
+    let m : max (max len firstPlace) (length g) ≡ max len (length g) = omega arith in
+    rw (z, m)
+
+-- ---- the edit
+
+-- a plan's numbers, one by one
+pub record Carries (f : List ℕ) (change : Change) (code : ℤ) (p : List ℕ) (x : Plan) : Type 0 where
+  pub order-is : x .order ≡ orderOf f
+  pub kind-is : x .kind ≡ kindOf f
+  pub at-is : x .at ≡ firstPlace + bytesBefore f (outFrom change (length (extensionList f)))
+  pub old-is : x .old ≡ outBytes f change
+  pub new-is : x .new ≡ length (joined (broughtIn (orderOf f) change code p))
+  pub end-is : x .end ≡ endFor (editedList f change code p)
+
+pub carries : (f : List ℕ) (change : Change) (code : ℤ) (p : List ℕ) (x : Plan) → planOf f change code p ≡ x → Carries f change code p x
+unfolding planOf
+carries f change code p x e =
+    let q = sym e in
+    record {
+      order-is = ap (λ (y : Plan). y .order) q;
+      kind-is = ap (λ (y : Plan). y .kind) q;
+      at-is = ap (λ (y : Plan). y .at) q;
+      old-is = ap (λ (y : Plan). y .old) q;
+      new-is = ap (λ (y : Plan). y .new) q;
+      end-is = ap (λ (y : Plan). y .end) q;
+    }
+
+-- that its moves stay inside the buffer l, and how long the fresh file is
+pub record Sizes (l : List ℕ) (len : ℕ) (change : Change) (code : ℤ) (p : List ℕ) (x : Plan) : Type 0 where
+  pub out : x .at + x .old ≤ max len firstPlace
+  pub inside : max len firstPlace ≤ length l
+  pub room : max len firstPlace + x .new ≤ length l + x .old
+  pub new-inside : x .at + x .new ≤ x .end
+  pub end-limit : x .end ≤ 134217728
+  pub long : firstPlace ≤ length (freshOf (take len l) change code p)
+  pub result : length (freshOf (take len l) change code p) ≡ max len firstPlace - x .old + x .new
+
+-- the sums behind them: the region ends at E, the file at W, the buffer at L, and J and T are the bytes of the extensions and the tail
+record Sums (at old new end W fresh L : ℕ) : Type 0 where
+  out : at + old ≤ W
+  inside : W ≤ L
+  room : W + new ≤ L + old
+  new-inside : at + new ≤ end
+  long : firstPlace ≤ fresh
+
+sums : (at old new end E W J T fresh L len : ℕ) → firstPlace ≤ at → at + old ≤ E → E ≡ firstPlace + J → W ≡ firstPlace + J + T → end ≡ E - old + new
+    → fresh ≡ W - old + new → fresh ≡ end + T → fresh ≤ L → len ≤ L → W ≤ len + (firstPlace - len) → Sums at old new end W fresh L
+sums at old new end E W J T fresh L len h o b c e w g r hl m =
+    let f : firstPlace ≤ fresh = omega arith in
+    let i : W ≤ L = omega arith in
+    record { out = omega arith; inside = i; room = omega arith; new-inside = omega arith; long = f }
+
+module _ (l : List ℕ) (len : ℕ) (change : Change) (code : ℤ) (p : List ℕ) (x : Plan) (hl : len ≤ length l)
+    (a : Allowed (take len l) (length l) change code p) (v : Carries (take len l) change code p x) where
+  abbrev f : List ℕ
+  f = take len l
+
+  abbrev xs : List (List ℕ)
+  xs = extensionList f
+
+  abbrev ys : List (List ℕ)
+  ys = broughtIn (orderOf f) change code p
+
+  abbrev i : ℕ
+  i = outFrom change (length xs)
+
+  abbrev j : ℕ
+  j = outTo change (length xs)
+
+  file-length : length f ≡ len
+  file-length = length-take-le len l hl
+
+  pub sizes : Sizes l len change code p x
+  sizes =
+      let k = a .known in
+      let lf = file-length in
+      let E = max (endOf f) firstPlace in
+      let W = max len firstPlace in
+      let fresh = length (freshOf f change code p) in
+      let o : x .at + x .old ≤ E = rw (v .at-is, v .old-is) (out-inside f change (k .present) (k .cut)) in
+      let e : x .end ≡ E - x .old + x .new = rw (v .end-is, v .old-is, v .new-is, length-new (orderOf f) change code p) (end-new f change (k .present) (k .cut) code p) in
+      let w : fresh ≡ W - x .old + x .new =
+      rw (v .old-is, v .new-is, length-new (orderOf f) change code p) (rw lf at (whole-new f change (k .present) (k .cut) code p (k .long))) in
+      let g : fresh ≡ x .end + length (tailOf f) = rw (v .end-is) (length-fresh f (editedList f change code p) (k .long)) in
+      let c : W ≡ firstPlace + length (joined xs) + length (tailOf f) = rw lf at (k .cut .whole) in
+      let s = sums (x .at) (x .old) (x .new) (x .end) E W (length (joined xs)) (length (tailOf f)) fresh (length l) len (omega (arith, v .at-is)) o (k .cut .base) c e w g (a .fits)
+      hl (omega arith) in
+      record {
+        out = s .out;
+        inside = s .inside;
+        room = s .room;
+        new-inside = s .new-inside;
+        end-limit = rw (v .end-is) (a .end-limit);
+        long = s .long;
+        result = w;
+      }
+
+  -- the front of the buffer, up to where the extensions begin
+  abbrev front : List ℕ
+  front = take 348 f ++ take 4 (drop 348 l)
+
+  buffer-long : firstPlace ≤ length l
+  buffer-long = let s : max len firstPlace ≤ length l = sizes .inside in omega arith
+
+  front-is : take firstPlace l ≡ front
+  front-is = let k = a .known .long in let lf = file-length in take-add 348 4 l ∙ rw (take-take 348 len l (omega arith))
+
+  front-length : length front ≡ firstPlace
+  front-length = sym (ap length front-is) ∙ length-take-le firstPlace l buffer-long
+
+  -- the file, with room for an extender where it had none
+  file-is : take (max len firstPlace) l ≡ front ++ (joined xs ++ tailOf f)
+  file-is =
+      let w = max len firstPlace in
+      let lf = file-length in
+      let t : take firstPlace (take w l) ≡ front = take-take firstPlace w l (omega arith) ∙ front-is in
+      let n : w - firstPlace ≡ len - firstPlace = omega arith in
+      let d : drop firstPlace (take w l) ≡ drop firstPlace f = drop-take firstPlace w l ∙ rw n (sym (drop-take firstPlace len l)) in
+      sym (take-append-drop firstPlace (take w l)) ∙ rw (t, d, a .known .cut .rest)
+
+  list-is : replaced (take (max len firstPlace) l) (x .at) (x .old) (joined ys) ≡ front ++ (joined (editedList f change code p) ++ tailOf f)
+  unfolding editedList
+  list-is = rw file-is (exchanged front xs ys (tailOf f) i j front-length (places change (length xs) (a .known .present) .0) (x .at) (x .old) (v .at-is) (v .old-is))
+
+  module _ (fits : SFits w32 code) where
+    extender-same : extenderBytes (x .end) ≡ extenderFor (editedList f change code p)
+    extender-same = rw (v .end-is) (extender-is (edited-whole f (length l) change code p fits a))
+
+    fresh-is : headFor (x .kind) (x .order) (x .end) (put (replaced (take (max len firstPlace) l) (x .at) (x .old) (joined ys)) 348 (extenderBytes (x .end)))
+        ≡ freshOf f change code p
+    unfolding freshFile
+    fresh-is =
+        let e = extenderFor (editedList f change code p) in
+        let r = joined (editedList f change code p) ++ tailOf f in
+        let k = a .known .long in
+        let lt : length (take 348 f) ≡ 348 = length-take-le 348 f k in
+        let lx : length (take 4 (drop 348 l)) ≡ 4 = let s = buffer-long in length-take-le 4 (drop 348 l) (rw length-drop (omega arith)) in
+        rw (list-is, extender-same, extended (take 348 f) (take 4 (drop 348 l)) e r lt lx (length-extender (editedList f change code p)), v .kind-is, v .order-is, v .end-is)
+        (headed (kindOf f) (orderOf f) (endFor (editedList f change code p)) (take 348 f) (e ++ r) (omega arith))
+
+    -- what the four steps leave
+    pub spliced : (w : ℕ) (b₁ b₂ b₃ b₄ : List ℕ) → w ≡ max len firstPlace
+        → b₁ ≡ put l (x .at + x .new) (take (w - (x .at + x .old)) (drop (x .at + x .old) l) ++ replicate (x .old - x .new) 0)
+        → b₂ ≡ put b₁ (x .at) (joined (broughtIn (x .order) change code p)) → b₃ ≡ put b₂ 348 (extenderBytes (x .end)) → b₄ ≡ headFor (x .kind) (x .order) (x .end) b₃
+        → b₄ ≡ settled l len (freshOf f change code p)
+    spliced w b₁ b₂ b₃ b₄ ew e₁ e₂ e₃ e₄ =
+        let s = sizes in
+        let W = max len firstPlace in
+        let moved : List ℕ = take (W - (x .at + x .old)) (drop (x .at + x .old) l) ++ replicate (x .old - x .new) 0 in
+        let n = v .new-is in
+        let f₁ : b₁ ≡ put l (x .at + x .new) moved = rw ew at e₁ in
+        let f₂ : b₂ ≡ put b₁ (x .at) (joined ys) = rw (v .order-is) at e₂ in
+        let g : List ℕ = replaced (take W l) (x .at) (x .old) (joined ys) in
+        let z : x .old - x .new ≡ x .old - length (joined ys) = omega arith in
+        let h₂ : b₂ ≡ settled l W g =
+        f₂ ∙ put-left l (x .at + x .new) moved (joined ys) b₁ (x .at) f₁ (omega arith) (omega arith)
+        ∙ rw z (settle l W (x .at) (x .old) (joined ys) (s .out) (s .inside)) in
+        let le = length-extender (editedList f change code p) in
+        let lx : length (extenderBytes (x .end)) ≡ 4 = rw extender-same le in
+        let lg : firstPlace ≤ length g = rw list-is (rw (length-append, front-length) (omega arith)) in
+        let lp : length (put g 348 (extenderBytes (x .end))) ≡ length g = length-put g 348 (extenderBytes (x .end)) (omega arith) in
+        let h₃ : b₃ ≡ settled l W (put g 348 (extenderBytes (x .end))) = e₃ ∙ rw (h₂, settled-put l W g 348 (extenderBytes (x .end)) (omega arith)) in
+        e₄
+        ∙ rw (h₃, headed-settled (x .kind) (x .order) (x .end) l W (put g 348 (extenderBytes (x .end))) (omega arith), fresh-is)
+        (settled-longer l len (freshOf f change code p) (s .long))

@@ -1,0 +1,34 @@
+-- `plan_edit` meets its contract: reading's refusal, or the list's plan.
+use mir.Syntax.{w32}
+use mir.ValLaws.{toZ-ofZ}
+use denote.Ref.{now}
+use Rattle.edit.proofs.Deciding.{stops-unread}
+use borrow.Author.Needs.{needs}
+use Rattle.edit.proofs.plan_edit.Statement.{statement}
+use Rattle.edit.proofs.plan_edit.Tie as tie
+
+read-requires : tie.Need-read-requires
+read-requires c κs = search needs
+
+enum-known-verdict : tie.Need-enum-known-verdict
+enum-known-verdict c = search needs
+
+enum-told : tie.Need-enum-told
+enum-told c = search needs
+
+plan-list-requires : tie.Need-plan-list-requires
+plan-list-requires c κs = search needs
+
+returns : tie.Need-returns
+returns c =
+    let a = c .before .before .before .before .before .before .args in
+    let r = c .before .before .before .read in
+    stops-unread (now (a .file)) (a .room) (a .change) (a .code) (now (a .payload)) (r .result) (r .ensures) (c .before .verdict .given .0 .0) (c .before .verdict .given .1)
+
+returns-2 : tie.Need-returns-2
+returns-2 c = rw (toZ-ofZ w32 (c .before .before .before .before .before .before .args .code) (c .before .before .before .before .before .before .fits .code)) at (c .plan-list .ensures)
+
+pub plan-edit-spec : {M : Type 1} → statement M
+plan-edit-spec =
+    tie.close
+    (tie.spec read-requires enum-known-verdict enum-told plan-list-requires returns returns-2)
