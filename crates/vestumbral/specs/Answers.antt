@@ -1,0 +1,133 @@
+-- The structs of the C interface: for each answer of the library, the paper's number and values of each case. Refusal 0 stands for
+-- success, and beside a refusal every other number but the place is 0.
+use Prim.Native.Nat.{ℕ}
+use mathlib.Core.Bool.{cond}
+use mathlib.Core.List.{List}
+use lib.Dec.{ltb}
+use lib.IntN.{pos}
+use lib.Ieee.{Float, fin}
+use lib.ListN.{getD, replicate}
+use Prim.Native.Nat.{ℕ}
+use mathlib.Core.Bool.{false}
+use Rattle.field.specs.declared.Order.{Order}
+use Rattle.field.specs.declared.Order.the-variants.{Little, Big}
+use Rattle.refusal.specs.declared.Refusal.{Refusal}
+use Rattle.refusal.specs.declared.Verdict.{Verdict}
+use Rattle.refusal.specs.declared.Verdict.the-variants.{Accepted, Refused}
+use Rattle.refusal.specs.Table.{refusal}
+use Rattle.extension.specs.declared.Span.{Span}
+use Rattle.extension.specs.Listing.{noSpan}
+use Rattle.header.specs.declared.Header.{Header}
+use Rattle.header.specs.declared.Kind.{Kind}
+use Rattle.header.specs.declared.Kind.the-variants.{Single, Pair}
+use Rattle.rules.specs.declared.Image.{Image}
+use Rattle.reader.specs.declared.Reading.{Reading}
+use Rattle.voxel.specs.declared.Located.{Located}
+use Rattle.voxel.specs.declared.Located.the-variants.{At, Unlocated}
+use Rattle.timing.specs.declared.Slice.{Slice}
+use Rattle.timing.specs.declared.Slice.the-variants as slice
+use Rattle.affine.specs.declared.Position.{Position}
+use Rattle.position.specs.declared.Positioned.{Positioned}
+use Rattle.position.specs.declared.Positioned.the-variants as position
+use Rattle.edit.specs.declared.Edited.{Edited}
+use Rattle.edit.specs.declared.Edited.the-variants.{Done, Denied}
+use Rattle.vestumbral.specs.declared.Reply.{Reply}
+use Rattle.vestumbral.specs.declared.FileAnswer.{FileAnswer}
+use Rattle.vestumbral.specs.declared.ExtensionAnswer.{ExtensionAnswer}
+use Rattle.vestumbral.specs.declared.SliceAnswer.{SliceAnswer}
+use Rattle.vestumbral.specs.declared.PositionAnswer.{PositionAnswer}
+
+-- a refusal as a reply
+abbrev pub refusedReply : Refusal → Reply
+refusedReply r = record { refusal = r .number; place = r .place; length = 0 }
+
+-- a voxel's place and length
+abbrev pub voxelReply : Located → Reply
+voxelReply (At e) = record { refusal = 0; place = e .place; length = e .length }
+voxelReply (Unlocated r) = refusedReply r
+
+-- a swap has no number of its own
+abbrev pub swapReply : Verdict → Reply
+swapReply Accepted = record { refusal = 0; place = 0; length = 0 }
+swapReply (Refused r) = refusedReply r
+
+-- an edit answers the new length
+abbrev pub editReply : Edited → Reply
+editReply (Done n) = record { refusal = 0; place = 0; length = n }
+editReply (Denied r) = refusedReply r
+
+abbrev pub bigEndian : Order → ℕ
+bigEndian Little = 0
+bigEndian Big = 1
+
+abbrev pub isPair : Kind → ℕ
+isPair Single = 0
+isPair Pair = 1
+
+-- a file's record, as much of it as the console shows
+abbrev pub shownFile : Header → Image → FileAnswer
+shownFile h i =
+    record {
+      refusal = 0;
+      place = 0;
+      «data_offset» = i .offset;
+      «data_bytes» = i .bytes;
+      «big_endian» = bigEndian (h .order);
+      pair = isPair (h .kind);
+      dim = h .dim;
+      datatype = h .intent .datatype;
+      bitpix = h .intent .bitpix;
+      extensions = h .count;
+    }
+
+abbrev pub refusedFile : Refusal → FileAnswer
+refusedFile r =
+    record {
+      refusal = r .number;
+      place = r .place;
+      «data_offset» = 0;
+      «data_bytes» = 0;
+      «big_endian» = 0;
+      pair = 0;
+      dim = replicate 8 (pos 0);
+      datatype = pos 0;
+      bitpix = pos 0;
+      extensions = 0;
+    }
+
+abbrev pub fileBy : Verdict → Header → Image → FileAnswer
+fileBy Accepted h i = shownFile h i
+fileBy (Refused r) h i = refusedFile r
+
+unfoldable pub fileAnswer : Reading → FileAnswer
+fileAnswer r = fileBy (r .verdict) (r .header) (r .image)
+
+-- one extension of a file: 1..15, then 18
+abbrev pub shownExtension : Span → ExtensionAnswer
+shownExtension x = record { refusal = 0; place = 0; start = x .start; size = x .size; code = x .code }
+
+abbrev pub refusedExtension : Refusal → ExtensionAnswer
+refusedExtension r = record { refusal = r .number; place = r .place; start = 0; size = pos 0; code = pos 0 }
+
+abbrev pub extensionBy : Verdict → Header → ℕ → ExtensionAnswer
+extensionBy Accepted h n = cond (ltb n (h .count)) (shownExtension (getD (h .spans) n noSpan)) (refusedExtension (refusal 18 0))
+extensionBy (Refused r) h n = refusedExtension r
+
+unfoldable pub extensionAnswer : Reading → ℕ → ExtensionAnswer
+extensionAnswer r n = extensionBy (r .verdict) (r .header) n
+
+-- plus zero
+abbrev pub plusZero : Float
+plusZero = fin false 0 (pos 0)
+
+-- a slice: state 0 unstated, 1 padding, 2 timed
+abbrev pub sliceAnswer : Slice → SliceAnswer
+sliceAnswer (slice.Refused r) = record { refusal = r .number; place = r .place; state = 0; rank = 0; seconds = plusZero }
+sliceAnswer slice.Unstated = record { refusal = 0; place = 0; state = 0; rank = 0; seconds = plusZero }
+sliceAnswer slice.Padding = record { refusal = 0; place = 0; state = 1; rank = 0; seconds = plusZero }
+sliceAnswer (slice.Timed rank t) = record { refusal = 0; place = 0; state = 2; rank = rank; seconds = t }
+
+-- a position's three values
+abbrev pub positionAnswer : Positioned → PositionAnswer
+positionAnswer (position.At p) = record { refusal = 0; place = 0; x = p .x; y = p .y; z = p .z }
+positionAnswer (position.Refused r) = record { refusal = r .number; place = r .place; x = plusZero; y = plusZero; z = plusZero }
