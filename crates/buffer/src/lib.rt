@@ -7,7 +7,7 @@ ghost use lib.ListN.{length, take, drop, replicate};
 ghost use Rattle.buffer.specs.Put.{put};
 
 // How many bytes a slide moves at a time; `slide_block` requires at most as many.
-const BLOCK: usize = 4096;
+const BLOCK: usize = 16384;
 
 // The bytes of src into buf from `at`.
 pub fn copy_in(buf: &mut [u8], at: usize, src: &[u8])
@@ -36,7 +36,7 @@ pub fn clear(buf: &mut [u8], at: usize, n: usize)
 // At most a block of n bytes from `from` to `to`, whether or not the two places overlap. The bytes go by way of a local array; the
 // compiler makes one memmove of the two copies, and no array.
 fn slide_block(buf: &mut [u8], from: usize, to: usize, n: usize)
-    requires { ⌜ (n ≤ 4096) × ((from + n ≤ length (now buf)) × (to + n ≤ length (now buf))) ⌝ }
+    requires { ⌜ (n ≤ 16384) × ((from + n ≤ length (now buf)) × (to + n ≤ length (now buf))) ⌝ }
     ensures { λ _. ⌜ now (buf .exit) ≡ put (now (buf .entry)) to (take n (drop from (now (buf .entry)))) ⌝ }
 {
     let mut block = [0u8; BLOCK];

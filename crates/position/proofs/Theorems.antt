@@ -1,12 +1,14 @@
 -- What holds of every position: its three values are finite; and in the case that 01-scope.md states it is the exact whole number. Of a record,
 -- and of every file by its record: `position_in` and `position_of` answer what the theorems speak of. Assumes nothing.
 use mathlib.Core.Path.{_≡_, refl, sym, ap, subst, _∙_}
-use mathlib.Core.Bool.{Bool, true, false, not, cond, _&&_, _||_, and-eq-true-iff, false≢true}
-use mathlib.Core.List.{List, [], _∷_}
-use Prim.Native.Nat.{ℕ, _+_, _*_, _<_}
+use mathlib.Core.Bool.{Bool, true, false, not, cond, _||_, and-eq-true-iff, false≢true}
+use mathlib.Core.List.{List, [], _∷_, _++_}
+use Prim.Native.Nat.{ℕ, suc, _+_, _-_, _≤_, _<_}
 use native.Mathlib.Omega.{arith}
-use borrow.Author.Tests.{ltb-true}
+use borrow.Author.Tests.{ltb-true, ltb-false}
 use lib.Dec.{leb, ltb}
+use lib.ListN.{length, getD, replicate, getD-replicate, List·getD-append}
+use lib.Seq.{getD-append-add}
 use lib.IntN.{ℤ, pos}
 use lib.Signed.{leZ}
 use lib.Ieee.Scale.{finite}
@@ -21,7 +23,8 @@ use Rattle.refusal.specs.Table.{Row, verdict}
 use Rattle.refusal.proofs.Rows.{Clear, none, one, accepted-clear}
 use Rattle.extension.specs.Walk.{Walked, listed, stopped}
 use Rattle.grid.specs.Grid.{within}
-use Rattle.grid.specs.Axes.{dimAt, extent}
+use Rattle.grid.specs.Axes.{dimAt, extent, axes, sevenAxes}
+use Rattle.grid.proofs.Axes.{length-axes, axes-at}
 use Rattle.grid.proofs.Voxels.{within-both}
 use Rattle.header.specs.declared.Header.{Header}
 use Rattle.header.specs.Fields.{headerOf}
@@ -35,8 +38,8 @@ use Rattle.affine.specs.Whole.{IsWhole, WholeRow, exactOf, PlacedExactly}
 use Rattle.affine.proofs.Theorems.{position-exact}
 use Rattle.position.specs.declared.Positioned.{Positioned}
 use Rattle.position.specs.declared.Positioned.the-variants.{At, Refused}
-use Rattle.position.specs.Positions.{lengthAt, threeAxes, resultsIn, finiteRows, finiteResults, positionRows, positionedBy, positionIn, answeredBy, positionAt}
-use Rattle.position.proofs.Answers.{answerOf, placedIn, position-placed, file-answered}
+use Rattle.position.specs.Positions.{lengthAt, threeAxes, resultsIn, finiteRows, positionRows, positionedBy, positionIn, answeredBy, positionAt}
+use Rattle.position.proofs.Answers.{answerOf, placedIn, length-stated, length-past, position-placed, file-answered}
 
 -- ---- the stated case
 -- "the first three numbers of each row are whole and at most 64 in size, and its last is whole and at most 8,388,608 in size"
@@ -110,6 +113,26 @@ file-position-exact file w i j k e a =
     let r = within-both _ _ k _ (q .1) in
     subst (ExactAt h w i j k) (file-answered file i j k e)
     (position-in-exact h w i j k a (omega (arith, p .0, f .0)) (omega (arith, q .0, f .1)) (omega (arith, r .0, f .2)))
+
+-- ---- the axes are those of a voxel's seven indexes
+pub length-of-seven : (dim : List ℤ) (k : ℕ) → k < 7 → getD (sevenAxes dim (axisCount dim)) k 0 ≡ lengthAt dim (suc k)
+unfolding sevenAxes
+length-of-seven dim k h = go (ltb k (axisCount dim)) refl
+  where
+    go : (t : Bool) → ltb k (axisCount dim) ≡ t → getD (axes dim (axisCount dim) ++ replicate (7 - axisCount dim) 1) k 0 ≡ lengthAt dim (suc k)
+    go true e =
+        let n = axisCount dim in
+        let l : k < n = ltb-true k n e in
+        let size = length-axes dim n in
+        List·getD-append (axes dim n) (replicate (7 - n) 1) 0 k (omega arith) ∙ axes-at dim n k l ∙ length-stated dim (suc k) l
+    go false e =
+        let n = axisCount dim in
+        let l : n ≤ k = ltb-false k n e in
+        let at : k ≡ length (axes dim n) + (k - n) = omega (arith, length-axes dim n) in
+        ap (λ m. getD (axes dim n ++ replicate (7 - n) 1) m 0) at
+        ∙ getD-append-add (axes dim n) (replicate (7 - n) 1) (k - n) 0
+        ∙ getD-replicate (7 - n) (k - n) 1 0 (omega arith)
+        ∙ length-past dim (suc k) (omega arith)
 
 -- ---- every position is finite
 positioned-is : (v : Verdict) (q p : Position) → positionedBy v q ≡ At p → (v ≡ Accepted) × (q ≡ p)

@@ -1,5 +1,5 @@
 -- What a record that states timing has, and one law for each answer: the tests that lead to it. Assumes nothing.
-use mathlib.Core.Path.{_≡_, refl, sym, subst}
+use mathlib.Core.Path.{_≡_, refl, sym}
 use mathlib.Core.Bool.{Bool, true, false, not, cond, _&&_, _||_, and-eq-true-iff, false≢true}
 use mathlib.Core.List.{List}
 use Prim.Native.Nat.{ℕ, _≤_, _<_}
@@ -19,7 +19,6 @@ use Rattle.rules.specs.Rules.{axisCount}
 use Rattle.reader.specs.Reading.{readingOf}
 use Rattle.slices.specs.declared.Time.the-variants.{Finite, Infinite}
 use Rattle.slices.specs.Times.{timeOf}
-use Rattle.timing.specs.declared.Slice.{Slice}
 use Rattle.timing.specs.declared.Slice.the-variants.{Refused, Unstated, Padding, Timed}
 use Rattle.timing.specs.Slices.{sliceAxis, acquires, isStated, sliceCount, firstSlice, lastSlice, rankAt, timeAt, firstOf, sliceIn, timedBy, sliceOf}
 

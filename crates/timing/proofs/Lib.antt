@@ -1,3 +1,4 @@
--- The laws that the functions' proofs cite, and the theorems on slice answers.
+-- The laws that the functions' proofs cite, the theorems on slice answers, and worked examples.
 pub mod Answers
 pub mod Theorems
+pub mod Examples

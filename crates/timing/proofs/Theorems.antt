@@ -1,13 +1,13 @@
--- What holds of every slice answer: a timed one has a rank below the number of acquired slices, and a time that is finite and one rounding of
--- the exact product; and a slice outside start..end is padding. Of a record, and of every file by its record: `slice_in` and `slice_at` answer what the
--- theorems speak of. Assumes nothing.
+-- What holds of every slice answer: a timed one has a rank below the number of acquired slices, and a time that is finite and is the exact
+-- product rounded once; a slice outside start..end is padding. Of a record, and of every file by its record: `slice_in` and `slice_at` answer
+-- what the theorems speak of. Assumes nothing.
 use mathlib.Core.Path.{_≡_, refl, sym, ap, subst, _∙_}
 use mathlib.Core.Bool.{Bool, true, false, cond, not, _||_, or-true, false≢true}
 use mathlib.Core.List.{List, []}
 use mathlib.Core.Logic.{_⊎_, inl, inr}
 use Prim.Native.Nat.{ℕ, _*_, _≤_, _<_}
 use native.Mathlib.Omega.{arith}
-use borrow.Author.Tests.{not-false, leb-false, ltb-true, lt-ltb}
+use borrow.Author.Tests.{not-false, ltb-true, lt-ltb}
 use lib.Dec.{leb, ltb}
 use lib.Ieee.{Float, binary32, ofBits, round}
 use lib.Ieee.Positive.{num, den}
@@ -18,7 +18,6 @@ use Rattle.field.specs.declared.Order.the-variants.{Little}
 use Rattle.field.specs.Numbers.{u16At}
 use Rattle.refusal.specs.declared.Verdict.{Verdict}
 use Rattle.refusal.specs.declared.Verdict.the-variants.{Accepted, Refused as Breaks}
-use Rattle.refusal.specs.Table.{refusal}
 use Rattle.extension.specs.Walk.{Walked, listed, stopped}
 use Rattle.grid.specs.Axes.{extent}
 use Rattle.header.specs.declared.Header.{Header}

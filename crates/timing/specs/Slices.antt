@@ -18,7 +18,7 @@ use Rattle.reader.specs.Reading.{readingOf}
 use Rattle.slices.specs.declared.Time.{Time}
 use Rattle.slices.specs.declared.Time.the-variants.{Finite, Infinite}
 use Rattle.slices.specs.Ranks.{rankIn}
-use Rattle.slices.specs.Times.{product, timeOf}
+use Rattle.slices.specs.Times.{product}
 use Rattle.timing.specs.declared.Slice.{Slice}
 use Rattle.timing.specs.declared.Slice.the-variants.{Refused, Unstated, Padding, Timed}
 
@@ -73,7 +73,7 @@ firstOf [] last = last
 firstOf (c ∷ cs) last = cond (c .test) (c .answer) (firstOf cs last)
 
 -- The cases, with this paper's number and values for each: "Unstated is tried first, then 17, then padding; last, an acquired slice whose
--- product is infinite is unstated."
+-- product is infinite is unstated." A product that is not finite is the infinity (`product-infinite` of the crate slices).
 abbrev pub casesOf : Header → ℕ → List Case
 casesOf h s =
     case (not (isStated h)) Unstated

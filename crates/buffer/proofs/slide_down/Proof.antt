@@ -44,7 +44,7 @@ loop-again c =
       omega (arith, kept),
       kept ∙ v .inv .2,
       v .inv .3
-          ∙ down-in-two (v .buf) _ (v .source) (v .target) (v .left) 4096 (v .left - 4096) (omega arith) (omega arith) (omega arith) (moved .ensures),
+          ∙ down-in-two (v .buf) _ (v .source) (v .target) (v .left) 16384 (v .left - 16384) (omega arith) (omega arith) (omega arith) (moved .ensures),
     )
 
 slide-block-requires-2 : tie.Need-slide-block-requires-2 Inv-loop μ-loop

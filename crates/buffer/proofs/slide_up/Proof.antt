@@ -45,7 +45,7 @@ loop-again c =
       omega (arith, kept),
       kept ∙ v .inv .2,
       v .inv .3
-          ∙ up-in-two (v .buf) _ (a .from) (a .to) (v .left) (v .left - 4096) 4096 (omega arith) (omega arith) (omega arith) (moved .ensures),
+          ∙ up-in-two (v .buf) _ (a .from) (a .to) (v .left) (v .left - 16384) 16384 (omega arith) (omega arith) (omega arith) (moved .ensures),
     )
 
 slide-block-requires-2 : tie.Need-slide-block-requires-2 Inv-loop μ-loop

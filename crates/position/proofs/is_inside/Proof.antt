@@ -1,3 +1,4 @@
+-- `is_inside` meets its contract: the three tests are rule 17's, and a length that a signed 16-bit number states bounds its index.
 use mathlib.Core.Path.{_∙_}
 use mathlib.Core.Bool.{_&&_}
 use lib.Dec.{ltb}

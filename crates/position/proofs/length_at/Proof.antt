@@ -1,3 +1,4 @@
+-- `length_at` meets its contract: dim[0] decides, by the laws of proofs/Answers.antt.
 use mathlib.Core.Path.{_∙_}
 use native.Mathlib.Omega.{arith}
 use denote.Ref.{now}

@@ -1,3 +1,4 @@
+-- `position_in` meets its contract: rule 17, sform_code, and then what affine places, by the laws of proofs/Answers.antt.
 use mathlib.Core.Path.{_≡_, sym, ap, _∙_}
 use mathlib.Core.Bool.{true, false}
 use mathlib.Core.List.{[], _∷_}

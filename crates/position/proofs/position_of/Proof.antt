@@ -1,3 +1,4 @@
+-- `position_of` meets its contract: the reading's refusal, and otherwise its record's answer.
 use mathlib.Core.Path.{sym, _∙_}
 use denote.Ref.{now}
 use Rattle.position.proofs.Answers.{file-refused, file-answered}

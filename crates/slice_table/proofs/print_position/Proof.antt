@@ -1,3 +1,4 @@
+-- `print_position` is safe: a position's values are finite.
 use mathlib.Core.Path.{sym, _∙_}
 use denote.Ref.{now}
 use Rattle.position.proofs.Theorems.{file-position-finite}

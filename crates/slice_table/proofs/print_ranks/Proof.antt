@@ -1,3 +1,4 @@
+-- `print_ranks` is safe and ends: the loop counts to at most 7.
 use Prim.Native.Nat.{_≤_, _-_}
 use borrow.Author.Needs.{needs}
 use Rattle.slice_table.proofs.print_ranks.Statement.{statement}

@@ -1,3 +1,4 @@
+-- `print_slice` is safe: a timed answer's time is finite.
 use mathlib.Core.Path.{sym, _∙_}
 use denote.Ref.{now}
 use Rattle.timing.proofs.Theorems.{file-time-finite}

@@ -1,3 +1,4 @@
+-- `print_slices` is safe and ends: the loop counts to 8.
 use Prim.Native.Nat.{_≤_, _-_}
 use borrow.Author.Needs.{needs}
 use Rattle.slice_table.proofs.print_slices.Statement.{statement}

@@ -1,3 +1,4 @@
+-- `say_float` is safe: a finite number is not a NaN.
 use Rattle.slice_table.proofs.Numbers.{finite-no-nan}
 use borrow.Author.Needs.{needs}
 use Rattle.slice_table.proofs.say_float.Statement.{statement}

@@ -1,3 +1,4 @@
+-- `is_stated` meets its contract: each test's value, by what the calls ensure; a signed field that is passed on keeps its value.
 use mathlib.Core.Bool.{_&&_}
 use lib.Dec.{leb}
 use mir.Syntax.{w16}

@@ -1,3 +1,4 @@
+-- `natural` meets its contract: its sign's test says which number the signed one states, by grid's laws of an entry.
 use borrow.Author.Needs.{needs}
 use mathlib.Core.Path.{refl, sym}
 use native.Mathlib.Omega.{arith}

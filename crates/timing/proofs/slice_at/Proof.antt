@@ -1,3 +1,4 @@
+-- `slice_at` meets its contract: the reading's refusal, and otherwise its record's answer.
 use mathlib.Core.Path.{sym, _∙_}
 use denote.Ref.{now}
 use Rattle.timing.proofs.Answers.{file-refused, file-answered}

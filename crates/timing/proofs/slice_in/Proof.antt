@@ -1,3 +1,4 @@
+-- `slice_in` meets its contract: a record that states no timing, and then the rest.
 use mathlib.Core.Path.{sym, _∙_}
 use Rattle.timing.proofs.Answers.{slice-unstated}
 use borrow.Author.Needs.{needs}

@@ -1,3 +1,4 @@
+-- `slice_stated` meets its contract: rule 17, padding and then the acquired slices, by the laws of proofs/Answers.antt.
 use mathlib.Core.Path.{_≡_, sym, ap, _∙_}
 use mathlib.Core.Bool.{_||_}
 use lib.Dec.{ltb}

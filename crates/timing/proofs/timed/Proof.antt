@@ -1,3 +1,4 @@
+-- `timed` meets its contract: the rank and the time are those that the crate slices ensures.
 use mathlib.Core.Path.{_≡_, sym, ap, _∙_}
 use Rattle.slices.specs.Ranks.{rankIn}
 use Rattle.slices.specs.Times.{timeOf}

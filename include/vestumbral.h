@@ -1,0 +1,161 @@
+/*
+ * Vestumbral: NIfTI-1 files, single (magic "n+1") and pair (magic "ni1"), of either byte order, for a C program.
+ *
+ * The rules are those of the project's paper 01-scope.md; here is what a caller needs of them.
+ *
+ * Every call takes any bytes and any numbers, ends, and answers by value. There are no out-parameters, no global state, no
+ * allocation and nothing to free. An answer begins with `refusal`, 0 for done, else a number of the table below, and `place`, the
+ * place in the file that the refusal speaks of. After a refusal every lent buffer has the bytes that it had.
+ *
+ * A `file` is a whole single file, or the header file of a pair. An `image` is the image file of a pair. For a single file the
+ * image arguments are neither read nor changed; pass NULL and 0.
+ *
+ * What the caller owes:
+ *   - Each pointer points to at least as many bytes as the length after it says, and nothing else writes them during the call.
+ *     NULL with length 0 is an empty buffer.
+ *   - Where a call writes (swap, append, replace, remove), the buffers it is given do not overlap: not `file` and `image`, not
+ *     `buffer` and `payload`.
+ *
+ * The refusals. They are tried in the order of their numbers, but 24 first. At each extension 15 is tried, then 13, then 14.
+ *
+ *   No  given when                                                                              place
+ *    1  fewer than 348 bytes                                                                    0
+ *    2  dim[0] is in 1..7 in neither byte order                                                 40
+ *    3  sizeof_hdr is not 348 in that order                                                     0
+ *    4  the magic is neither 6E 69 31 00 nor 6E 2B 31 00                                        344
+ *    5  some dim[i], i in 1..dim[0], is below 1                                                 40 + 2i, least i
+ *    6  the datatype is not 2, 4, 8, 16, 32, 64, 128, 256, 512, 768, 1024, 1280, 1536, 1792,
+ *       2048 or 2304                                                                            70
+ *    7  bitpix is not the datatype's                                                            72
+ *    8  vox_offset is not finite, is below zero, or has a fraction                              108
+ *    9  single: vox_offset below 352 or above 134217728; pair: vox_offset above that, or a
+ *       header file longer than that                                                            108
+ *   10  more than 1099511627776 image bytes                                                     40
+ *   11  single: file shorter than vox_offset + image bytes                                      108
+ *   12  pair of 349..351 bytes, or the four bytes at 348 are neither 0,0,0,0 nor 1,0,0,0        348
+ *   13  an extension's size is not a positive multiple of 16, or fewer than 16 bytes are left,
+ *       or it passes the region's end                                                           its start
+ *   14  an extension's code is negative                                                         its start + 4
+ *   15  a 65th extension would begin                                                            its start
+ *   16  pair: image file shorter than vox_offset + image bytes                                  0
+ *   17  a voxel or slice index outside its axis                                                 0
+ *   18  no extension with that number; the first is 0                                           0
+ *   19  the code offered is negative                                                            0
+ *   20  append where the extender is zero and bytes already follow 352 in the region            0
+ *   21  the edited file would have 65 extensions, or its region would end past 134217728        0
+ *   22  the result is longer than the buffer                                                    0
+ *   23  no position                                                                             0
+ *   24  the stated file length is above the buffer's length                                     0
+ *
+ * The extension region begins at 352. It ends at vox_offset in a single file and at the file's end in a pair's header file.
+ */
+#ifndef VESTUMBRAL_H
+#define VESTUMBRAL_H
+
+#include <stddef.h>
+#include <stdint.h>
+
+#ifdef __cplusplus
+extern "C" {
+#endif
+
+/* The answer of voxel, swap, append, replace and remove. */
+typedef struct {
+    uint64_t refusal;     /* 0: done; else a number of the table */
+    uint64_t place;       /* of a refusal its place; of a voxel its place; else 0 */
+    uint64_t length;      /* of a voxel its bytes; of an edit the new file length; else 0, and 0 in every refusal */
+} vestumbral_reply;
+
+/* What reading a file answers. On a refusal every field after place is 0. */
+typedef struct {
+    uint64_t refusal, place;
+    uint64_t data_offset; /* vox_offset as a whole number */
+    uint64_t data_bytes;  /* image bytes: dim[1] x .. x dim[dim[0]] x bitpix / 8 */
+    uint32_t big_endian;  /* 0 little, 1 big */
+    uint32_t pair;        /* 0 single, 1 pair */
+    int16_t  dim[8];      /* dim[0] is the number of axes; entries after dim[dim[0]] are as stored */
+    int16_t  datatype, bitpix;
+    uint32_t extensions;  /* how many, 0..64 */
+} vestumbral_file;
+
+/* One extension. On a refusal start, size and code are 0. */
+typedef struct {
+    uint64_t refusal, place;
+    uint64_t start;       /* where its size field stands; code at start + 4, payload at start + 8 */
+    int32_t  size, code;  /* size counts the 8 bytes of size and code too */
+} vestumbral_extension;
+
+/* One slice. */
+typedef struct {
+    uint64_t refusal, place;
+    uint32_t state;       /* 0 unstated, 1 padding, 2 timed; 0 on a refusal */
+    uint32_t rank;        /* its turn, the first slice acquired has 0; 0 unless timed */
+    float    seconds;     /* rank x slice_duration in binary32, in the file's own time unit; 0 unless timed */
+} vestumbral_slice;
+
+/* A position by Method 3 (the srow numbers). x, y and z are +0 on a refusal. */
+typedef struct {
+    uint64_t refusal, place;
+    float x, y, z;
+} vestumbral_position;
+
+/* What the file is. Refusals 1..15. */
+vestumbral_file vestumbral_read(const uint8_t *file, size_t file_len);
+
+/* Where extension `number` stands, its size and its code. Refusals 1..15, then 18. */
+vestumbral_extension vestumbral_extension_at(const uint8_t *file, size_t file_len, uint64_t number);
+
+/*
+ * The voxel with seven indexes from 0, the first varying fastest; those after dim[0] must be 0. Answers where its bytes begin, in
+ * the file (single) or in the image file (pair), and how many they are. Refusals 1..15, 16 for a pair, then 17.
+ */
+vestumbral_reply vestumbral_voxel(const uint8_t *file, size_t file_len, const uint8_t *image, size_t image_len,
+                                  uint64_t i1, uint64_t i2, uint64_t i3, uint64_t i4, uint64_t i5, uint64_t i6, uint64_t i7);
+
+/*
+ * When slice `slice` of the slice axis was acquired. Refusals 1..15, then 17, which is given only where timing is stated; where it
+ * is not, every slice is unstated. A slice whose time would be infinite is unstated too.
+ */
+vestumbral_slice vestumbral_slice_at(const uint8_t *file, size_t file_len, uint64_t slice);
+
+/*
+ * The position of voxel (i, j, k), each coordinate ((s0 x i + s1 x j) + s2 x k) + s3 in binary32, rounded after each operation. An
+ * axis after dim[0] has length 1. Refusals 1..15, 17, then 23: sform_code is not above 0, or an srow number or a result is not
+ * finite.
+ */
+vestumbral_position vestumbral_position_of(const uint8_t *file, size_t file_len, uint64_t i, uint64_t j, uint64_t k);
+
+/*
+ * Turns the file to the other byte order in place: every number of the header, each extension's size and code, and the image, unit
+ * by unit. Texts, payloads, private bytes, an image file's front and bytes after the image stay. Refusals 1..15, then 16 for a
+ * pair.
+ */
+vestumbral_reply vestumbral_swap(uint8_t *file, size_t file_len, uint8_t *image, size_t image_len);
+
+/*
+ * The three edits work in place. The file is the first file_len bytes of the buffer. `length` answers its new length. In a single
+ * file vox_offset is set anew and the bytes from it to the file's end move along; in a pair vox_offset stays. When the file
+ * shrinks, the freed bytes become zero. Bytes past both lengths keep their content.
+ *
+ * A stored extension takes the least multiple of 16 that is at least payload_len + 8 bytes; the spare ones are zero. So an append
+ * makes the file longer by that much, and by 4 more where a pair's header file has 348 bytes.
+ *
+ * Refusals: 24, 1..15, then those named below.
+ */
+
+/* Adds an extension after the last. 19, 20, 21, 22. */
+vestumbral_reply vestumbral_append(uint8_t *buffer, size_t buffer_len, uint64_t file_len,
+                                   int32_t code, const uint8_t *payload, size_t payload_len);
+
+/* Puts an extension in the place of extension `number`. 18, 19, 21, 22. */
+vestumbral_reply vestumbral_replace(uint8_t *buffer, size_t buffer_len, uint64_t file_len, uint64_t number,
+                                    int32_t code, const uint8_t *payload, size_t payload_len);
+
+/* Takes extension `number` out. Where none is left the extender becomes zero and the region ends at 352. 18. */
+vestumbral_reply vestumbral_remove(uint8_t *buffer, size_t buffer_len, uint64_t file_len, uint64_t number);
+
+#ifdef __cplusplus
+}
+#endif
+
+#endif

@@ -1,0 +1,407 @@
+/*
+ * The C interface from the C side: every call with NULL, with one byte, at exact fits and on the numbers of 01-scope.md ("Numbers
+ * on each side"). Buffers come from the heap, under the address sanitizer, and once more from memory that ends at a page which may
+ * not be touched: the library is not built with the sanitizer, so only the second way sees each of its own reads and writes.
+ */
+#include "vestumbral.h"
+
+#include <stdio.h>
+#include <stdlib.h>
+#include <string.h>
+#include <sys/mman.h>
+
+_Static_assert(sizeof(vestumbral_reply) == 24, "reply");
+_Static_assert(sizeof(vestumbral_file) == 64 && offsetof(vestumbral_file, dim) == 40, "file");
+_Static_assert(offsetof(vestumbral_file, datatype) == 56 && offsetof(vestumbral_file, extensions) == 60, "file");
+_Static_assert(sizeof(vestumbral_extension) == 32 && offsetof(vestumbral_extension, code) == 28, "extension");
+_Static_assert(sizeof(vestumbral_slice) == 32 && offsetof(vestumbral_slice, seconds) == 24, "slice");
+_Static_assert(sizeof(vestumbral_position) == 32 && offsetof(vestumbral_position, z) == 24, "position");
+
+static unsigned checks, failed;
+
+static void check(int fact, const char *text, int line)
+{
+    checks++;
+    if (!fact) {
+        failed++;
+        printf("boundary.c:%d: %s\n", line, text);
+    }
+}
+
+#define CHECK(fact) check((fact), #fact, __LINE__)
+/* the answer is the refusal with this number and place */
+#define REFUSED(answer, number, at) CHECK((answer).refusal == (number) && (answer).place == (at))
+
+static int done(vestumbral_reply reply, uint64_t place, uint64_t length)
+{
+    return reply.refusal == 0 && reply.place == place && reply.length == length;
+}
+
+static int refused(vestumbral_reply reply, uint64_t refusal)
+{
+    return reply.refusal == refusal && reply.place == 0 && reply.length == 0;
+}
+
+static int all(const uint8_t *bytes, uint8_t value, size_t length)
+{
+    for (size_t i = 0; i < length; i++)
+        if (bytes[i] != value)
+            return 0;
+    return 1;
+}
+
+static void put16(uint8_t *to, unsigned value)
+{
+    to[0] = value & 255;
+    to[1] = value >> 8 & 255;
+}
+
+static void put32(uint8_t *to, uint32_t value)
+{
+    put16(to, value & 65535);
+    put16(to + 2, value >> 16);
+}
+
+static uint32_t bits(float value)
+{
+    uint32_t to;
+    memcpy(&to, &value, sizeof to);
+    return to;
+}
+
+/* A little-endian header without extensions; dims has dim[0] first. */
+static void header(uint8_t *file, int pair, const int *dims, int datatype, int bitpix, uint32_t offset)
+{
+    memset(file, 0, 348);
+    put32(file, 348);
+    for (int i = 0; i <= dims[0]; i++)
+        put16(file + 40 + 2 * i, dims[i]);
+    put16(file + 70, datatype);
+    put16(file + 72, bitpix);
+    put32(file + 108, offset);
+    memcpy(file + 344, pair ? "ni1" : "n+1", 4);
+}
+
+/* File A of 01-scope.md, 364 bytes; its image bytes are 1 to 12. */
+static void file_a(uint8_t *file)
+{
+    header(file, 0, (const int[]){2, 3, 2}, 4, 16, 0x43b00000);
+    memset(file + 348, 0, 4);
+    for (int i = 0; i < 12; i++)
+        file[352 + i] = i + 1;
+}
+
+/* Memory of so many bytes: from the heap, or ending where the next byte may not be touched. */
+enum source { HEAP, FENCED };
+enum { PAGE = 4096, PAGES = 3 };
+
+static uint8_t *take(enum source source, size_t length)
+{
+    if (source == HEAP) {
+        uint8_t *bytes = malloc(length);
+        if (bytes)
+            return bytes;
+    } else {
+        uint8_t *low = mmap(NULL, (PAGES + 1) * PAGE, PROT_NONE, MAP_PRIVATE | MAP_ANONYMOUS, -1, 0);
+        if (low != MAP_FAILED && length <= PAGES * PAGE && mprotect(low, PAGES * PAGE, PROT_READ | PROT_WRITE) == 0)
+            return low + PAGES * PAGE - length;
+    }
+    puts("boundary: no memory");
+    exit(2);
+}
+
+static void give_back(enum source source, uint8_t *bytes, size_t length)
+{
+    if (source == HEAP)
+        free(bytes);
+    else
+        munmap(bytes + length - PAGES * PAGE, (PAGES + 1) * PAGE);
+}
+
+/* Every call with `length` bytes, 0 or 1, at this pointer, which may be NULL only for 0. */
+static void too_short(uint8_t *bytes, size_t length)
+{
+    vestumbral_file file = vestumbral_read(bytes, length);
+    REFUSED(file, 1, 0);
+    CHECK(file.data_offset == 0 && file.data_bytes == 0 && file.big_endian == 0 && file.pair == 0 && file.extensions == 0);
+    CHECK(file.dim[0] == 0 && file.dim[7] == 0 && file.datatype == 0 && file.bitpix == 0);
+    vestumbral_extension extension = vestumbral_extension_at(bytes, length, 0);
+    REFUSED(extension, 1, 0);
+    CHECK(extension.start == 0 && extension.size == 0 && extension.code == 0);
+    vestumbral_slice slice = vestumbral_slice_at(bytes, length, 0);
+    REFUSED(slice, 1, 0);
+    CHECK(slice.state == 0 && slice.rank == 0 && bits(slice.seconds) == 0);
+    vestumbral_position position = vestumbral_position_of(bytes, length, 0, 0, 0);
+    REFUSED(position, 1, 0);
+    CHECK(bits(position.x) == 0 && bits(position.y) == 0 && bits(position.z) == 0);
+    CHECK(refused(vestumbral_voxel(bytes, length, NULL, 0, 0, 0, 0, 0, 0, 0, 0), 1));
+    CHECK(refused(vestumbral_swap(bytes, length, NULL, 0), 1));
+    CHECK(refused(vestumbral_append(bytes, length, length, 0, NULL, 0), 1));
+    CHECK(refused(vestumbral_replace(bytes, length, length, 0, 0, NULL, 0), 1));
+    CHECK(refused(vestumbral_remove(bytes, length, length, 0), 1));
+    CHECK(refused(vestumbral_append(bytes, length, length + 1, 0, NULL, 0), 24));
+    CHECK(refused(vestumbral_replace(bytes, length, UINT64_MAX, 0, 0, NULL, 0), 24));
+    CHECK(refused(vestumbral_remove(bytes, length, length + 1, 0), 24));
+}
+
+static void reading(enum source source)
+{
+    uint8_t *a = take(source, 364);
+    file_a(a);
+    vestumbral_file file = vestumbral_read(a, 364);
+    REFUSED(file, 0, 0);
+    CHECK(file.data_offset == 352 && file.data_bytes == 12 && file.big_endian == 0 && file.pair == 0 && file.extensions == 0);
+    CHECK(file.dim[0] == 2 && file.dim[1] == 3 && file.dim[2] == 2 && file.dim[3] == 0 && file.datatype == 4 && file.bitpix == 16);
+    REFUSED(vestumbral_extension_at(a, 364, 0), 18, 0);
+    CHECK(done(vestumbral_voxel(a, 364, NULL, 0, 2, 1, 0, 0, 0, 0, 0), 362, 2));
+    CHECK(refused(vestumbral_voxel(a, 364, NULL, 0, 3, 0, 0, 0, 0, 0, 0), 17));
+    CHECK(refused(vestumbral_voxel(a, 364, NULL, 0, 0, 0, 0, 0, 0, 0, UINT64_MAX), 17));
+    put16(a + 46, 0xffff); /* dim[3] is not judged, and its index must be 0 all the same */
+    CHECK(vestumbral_read(a, 364).dim[3] == -1);
+    CHECK(refused(vestumbral_voxel(a, 364, NULL, 0, 0, 0, 1, 0, 0, 0, 0), 17));
+    a[348] = 1;
+    REFUSED(vestumbral_read(a, 364), 13, 352);
+    give_back(source, a, 364);
+
+    a = take(source, 363);
+    uint8_t whole[364];
+    file_a(whole);
+    memcpy(a, whole, 363);
+    REFUSED(vestumbral_read(a, 363), 11, 108);
+    CHECK(refused(vestumbral_append(a, 363, 364, 0, NULL, 0), 24));
+    give_back(source, a, 363);
+
+    a = take(source, 348);
+    memset(a, 0, 348);
+    REFUSED(vestumbral_read(a, 348), 2, 40);
+    give_back(source, a, 348);
+}
+
+/* The five offsets, and minus zero, in a single file and in a pair's header file of 348 bytes. */
+static void offsets(enum source source)
+{
+    const struct {
+        uint32_t bits, single, pair;
+        uint64_t whole;
+    } rows[] = {{0x43b00000, 0, 0, 352},        {0x43b04000, 8, 8, 0}, {0x43af8000, 9, 0, 351},
+                {0x4d000000, 11, 0, 134217728}, {0x4d000001, 9, 9, 0}, {0x80000000, 9, 0, 0}};
+    for (size_t i = 0; i < sizeof rows / sizeof *rows; i++) {
+        uint8_t *a = take(source, 364);
+        file_a(a);
+        put32(a + 108, rows[i].bits);
+        REFUSED(vestumbral_read(a, 364), rows[i].single, rows[i].single ? 108 : 0);
+        give_back(source, a, 364);
+        uint8_t *pair = take(source, 348);
+        header(pair, 1, (const int[]){1, 1}, 2, 8, rows[i].bits);
+        vestumbral_file file = vestumbral_read(pair, 348);
+        REFUSED(file, rows[i].pair, rows[i].pair ? 108 : 0);
+        CHECK(file.data_offset == rows[i].whole);
+        give_back(source, pair, 348);
+    }
+}
+
+static void image_limit(void)
+{
+    const int dims[] = {3, 16384, 16384, 4096};
+    const int wraps[] = {5, 16384, 16384, 16384, 16384, 256}; /* 2^64 bytes */
+    uint8_t file[348];
+    header(file, 1, dims, 2, 8, 0);
+    CHECK(vestumbral_read(file, 348).data_bytes == 1099511627776);
+    CHECK(refused(vestumbral_voxel(file, 348, file, 1, 0, 0, 0, 0, 0, 0, 0), 16));
+    header(file, 1, dims, 4, 16, 0);
+    REFUSED(vestumbral_read(file, 348), 10, 40);
+    header(file, 1, wraps, 2, 8, 0);
+    REFUSED(vestumbral_read(file, 348), 10, 40);
+}
+
+/* Payloads of 0, 8 and 9 bytes at exact fits, and one byte short of them. */
+static void payloads(enum source source)
+{
+    const size_t rows[][2] = {{0, 16}, {8, 16}, {9, 32}};
+    for (size_t i = 0; i < 3; i++) {
+        size_t payload = rows[i][0], size = rows[i][1], length = 364 + size;
+        uint8_t *note = payload ? take(source, payload) : NULL;
+        if (note)
+            memset(note, 'n', payload);
+        uint8_t *buffer = take(source, length - 1);
+        uint8_t before[396];
+        file_a(buffer);
+        memset(buffer + 364, 0xaa, size - 1);
+        memcpy(before, buffer, length - 1);
+        CHECK(refused(vestumbral_append(buffer, length - 1, 364, 6, note, payload), 22));
+        CHECK(memcmp(before, buffer, length - 1) == 0);
+        give_back(source, buffer, length - 1);
+        buffer = take(source, length);
+        file_a(buffer);
+        memset(buffer + 364, 0xaa, size);
+        CHECK(done(vestumbral_append(buffer, length, 364, 6, note, payload), 0, length));
+        CHECK(memcmp(buffer + 348, (const uint8_t[]){1, 0, 0, 0, (uint8_t)size, 0, 0, 0, 6, 0, 0, 0}, 12) == 0);
+        CHECK(all(buffer + 360, 'n', payload) && all(buffer + 360 + payload, 0, size - 8 - payload));
+        CHECK(memcmp(buffer + 352 + size, before + 352, 12) == 0);
+        vestumbral_extension extension = vestumbral_extension_at(buffer, length, 0);
+        CHECK(extension.refusal == 0 && extension.start == 352 && extension.size == (int32_t)size && extension.code == 6);
+        CHECK(vestumbral_read(buffer, length).data_offset == 352 + size);
+        CHECK(done(vestumbral_remove(buffer, length, length, 0), 0, 364));
+        CHECK(memcmp(buffer, before, 364) == 0 && all(buffer + 364, 0, size));
+        give_back(source, buffer, length);
+        if (note)
+            give_back(source, note, payload);
+    }
+}
+
+/* Five bytes appended to A, replaced by longer and shorter ones, at exact fits. */
+static void edits(enum source source)
+{
+    uint8_t *buffer = take(source, 396);
+    uint8_t before[364];
+    file_a(before);
+    memcpy(buffer, before, 364);
+    memset(buffer + 364, 0xaa, 32);
+    CHECK(refused(vestumbral_append(buffer, 396, 364, -1, NULL, 0), 19));
+    CHECK(refused(vestumbral_remove(buffer, 396, 364, 0), 18));
+    CHECK(refused(vestumbral_replace(buffer, 396, 364, 0, -1, NULL, 0), 18));
+    CHECK(done(vestumbral_append(buffer, 396, 364, 4, (const uint8_t *)"hello", 5), 0, 380));
+    CHECK(memcmp(buffer + 108, (const uint8_t[]){0, 0, 0xb8, 0x43}, 4) == 0);
+    CHECK(done(vestumbral_voxel(buffer, 380, NULL, 0, 2, 1, 0, 0, 0, 0, 0), 378, 2));
+    CHECK(memcmp(buffer + 378, before + 362, 2) == 0 && all(buffer + 380, 0xaa, 16));
+    CHECK(refused(vestumbral_replace(buffer, 396, 380, 1, 4, NULL, 0), 18));
+    CHECK(refused(vestumbral_replace(buffer, 396, 380, 0, 4, (const uint8_t *)"0123456789012345678901234", 25), 22));
+    CHECK(done(vestumbral_replace(buffer, 396, 380, 0, 6, (const uint8_t *)"012345678901234567890123", 24), 0, 396));
+    CHECK(memcmp(buffer + 360, "012345678901234567890123", 24) == 0 && memcmp(buffer + 384, before + 352, 12) == 0);
+    CHECK(done(vestumbral_replace(buffer, 396, 396, 0, 6, (const uint8_t *)"1", 1), 0, 380));
+    CHECK(memcmp(buffer + 360, "1\0\0\0\0\0\0", 8) == 0 && memcmp(buffer + 368, before + 352, 12) == 0 && all(buffer + 380, 0, 16));
+    CHECK(done(vestumbral_remove(buffer, 396, 380, 0), 0, 364));
+    CHECK(memcmp(buffer, before, 364) == 0 && all(buffer + 364, 0, 32));
+    CHECK(refused(vestumbral_remove(buffer, 396, 397, 0), 24));
+    give_back(source, buffer, 396);
+}
+
+/* A pair's header file grows from 348 bytes; its vox_offset stays; 20 with private bytes; 21 at a 65th. */
+static void pair_edits(enum source source)
+{
+    size_t length = 352 + 64 * 16;
+    uint8_t *buffer = take(source, length);
+    memset(buffer, 0x33, length);
+    header(buffer, 1, (const int[]){1, 5}, 2, 8, 0x80000000);
+    CHECK(done(vestumbral_append(buffer, length, 348, 2, NULL, 0), 0, 368));
+    CHECK(buffer[111] == 0x80 && all(buffer + 108, 0, 3) && buffer[348] == 1 && buffer[368] == 0x33);
+    for (uint64_t i = 1; i < 64; i++)
+        CHECK(done(vestumbral_append(buffer, length, 352 + 16 * i, 2, buffer, 0), 0, 368 + 16 * i));
+    CHECK(vestumbral_read(buffer, length).extensions == 64);
+    CHECK(vestumbral_extension_at(buffer, length, 63).start == 1360);
+    REFUSED(vestumbral_extension_at(buffer, length, 64), 18, 0);
+    CHECK(refused(vestumbral_append(buffer, length, length, 2, NULL, 0), 21));
+    for (uint64_t i = 64; i > 0; i--)
+        CHECK(done(vestumbral_remove(buffer, length, 352 + 16 * i, i / 2), 0, 336 + 16 * i));
+    CHECK(all(buffer + 348, 0, length - 348));
+    CHECK(refused(vestumbral_append(buffer, length, 353, 2, NULL, 0), 20));
+    REFUSED(vestumbral_read(buffer, 350), 12, 348);
+    give_back(source, buffer, length);
+}
+
+static void swaps(enum source source)
+{
+    uint8_t *a = take(source, 364);
+    uint8_t before[364];
+    file_a(before);
+    memcpy(a, before, 364);
+    CHECK(done(vestumbral_swap(a, 364, NULL, 0), 0, 0));
+    vestumbral_file file = vestumbral_read(a, 364);
+    CHECK(file.refusal == 0 && file.big_endian == 1 && file.dim[1] == 3 && file.data_offset == 352 && file.data_bytes == 12);
+    CHECK(a[352] == 2 && a[353] == 1 && a[363] == 11 && memcmp(a + 344, before + 344, 8) == 0);
+    CHECK(done(vestumbral_swap(a, 364, a, 0), 0, 0));
+    CHECK(memcmp(a, before, 364) == 0);
+    give_back(source, a, 364);
+
+    /* the unit is not the voxel: COMPLEX64 turns by fours, RGB24 and RGBA32 not at all */
+    const int rows[][3] = {{32, 64, 4}, {128, 24, 1}, {2304, 32, 1}, {1792, 128, 8}, {2048, 256, 16}};
+    for (size_t i = 0; i < sizeof rows / sizeof *rows; i++) {
+        size_t voxel = rows[i][1] / 8, unit = rows[i][2];
+        uint8_t *pair = take(source, 348), *image = take(source, voxel + 1);
+        header(pair, 1, (const int[]){1, 1}, rows[i][0], rows[i][1], 0x3f800000);
+        for (size_t j = 0; j <= voxel; j++)
+            image[j] = j;
+        CHECK(refused(vestumbral_swap(pair, 348, image, voxel), 16) && pair[0] == 0x5c && image[voxel] == voxel);
+        CHECK(done(vestumbral_swap(pair, 348, image, voxel + 1), 0, 0));
+        CHECK(image[0] == 0);
+        for (size_t j = 0; j < voxel; j++)
+            CHECK(image[1 + j] == 1 + j / unit * unit + (unit - 1 - j % unit));
+        CHECK(done(vestumbral_voxel(pair, 348, image, voxel + 1, 0, 0, 0, 0, 0, 0, 0), 1, voxel));
+        CHECK(refused(vestumbral_voxel(pair, 348, image, 1, 0, 0, 0, 0, 0, 0, 0), 16));
+        CHECK(refused(vestumbral_voxel(pair, 348, NULL, 0, 0, 0, 0, 0, 0, 0, 0), 16));
+        give_back(source, pair, 348);
+        give_back(source, image, voxel + 1);
+    }
+}
+
+/* Document 004's table: dim[3] is 7, slice_duration 0.1, slices 1 to 5; the times by rank in binary32. */
+static void slices(enum source source)
+{
+    static const uint8_t ranks[6][5] = {{0, 1, 2, 3, 4}, {4, 3, 2, 1, 0}, {0, 3, 1, 4, 2}, /* SEQ_INC, SEQ_DEC, ALT_INC */
+                                        {2, 4, 1, 3, 0}, {2, 0, 3, 1, 4}, {4, 1, 3, 0, 2}}; /* ALT_DEC, ALT_INC2, ALT_DEC2 */
+    static const uint32_t times[5] = {0, 0x3dcccccd, 0x3e4ccccd, 0x3e99999a, 0x3ecccccd};
+    uint8_t *file = take(source, 348);
+    header(file, 1, (const int[]){3, 1, 1, 7}, 2, 8, 0);
+    file[39] = 0x39;
+    put16(file + 74, 1);
+    put16(file + 120, 5);
+    put32(file + 132, 0x3dcccccd);
+    CHECK(vestumbral_slice_at(file, 348, 7).refusal == 0); /* slice_code 0: unstated, and no 17 */
+    for (int code = 1; code <= 6; code++) {
+        file[122] = code;
+        for (uint64_t s = 0; s < 7; s++) {
+            vestumbral_slice slice = vestumbral_slice_at(file, 348, s);
+            unsigned rank = s >= 1 && s <= 5 ? ranks[code - 1][s - 1] : 0;
+            CHECK(slice.refusal == 0 && slice.place == 0 && slice.state == (s >= 1 && s <= 5 ? 2u : 1u));
+            CHECK(slice.rank == rank && bits(slice.seconds) == times[rank]);
+        }
+        REFUSED(vestumbral_slice_at(file, 348, 7), 17, 0);
+    }
+    give_back(source, file, 348);
+}
+
+static void positions(enum source source)
+{
+    static const uint32_t srow[12] = {0x3f800000, 0, 0, 0xc2b40000, 0, 0xbf800000, 0, 0x42fc0000, /* i - 90, -j + 126 */
+                                      0xbf09b16b, 0x40064993, 0xc07eebf5, 0xbedfb1ad};
+    uint8_t *file = take(source, 348);
+    header(file, 1, (const int[]){3, 300, 300, 300}, 2, 8, 0);
+    for (int i = 0; i < 12; i++)
+        put32(file + 280 + 4 * i, srow[i]);
+    REFUSED(vestumbral_position_of(file, 348, 185, 206, 59), 23, 0);
+    REFUSED(vestumbral_position_of(file, 348, 300, 0, 0), 17, 0);
+    put16(file + 254, 1);
+    vestumbral_position position = vestumbral_position_of(file, 348, 185, 206, 59);
+    REFUSED(position, 0, 0);
+    CHECK(bits(position.x) == 0x42be0000 && bits(position.y) == 0xc2a00000 && bits(position.z) == 0x42c2947a);
+    REFUSED(vestumbral_position_of(file, 348, 0, 0, UINT64_MAX), 17, 0);
+    put32(file + 280, 0x7f800000);
+    REFUSED(vestumbral_position_of(file, 348, 0, 0, 0), 23, 0);
+    give_back(source, file, 348);
+}
+
+int main(void)
+{
+    uint8_t one = 0x5c;
+    too_short(NULL, 0);
+    too_short(&one, 1);
+    CHECK(one == 0x5c);
+    image_limit();
+    for (enum source source = HEAP; source <= FENCED; source++) {
+        uint8_t *byte = take(source, 1);
+        *byte = 1;
+        too_short(byte, 1);
+        too_short(byte + 1, 0);
+        give_back(source, byte, 1);
+        reading(source);
+        offsets(source);
+        payloads(source);
+        edits(source);
+        pair_edits(source);
+        swaps(source);
+        slices(source);
+        positions(source);
+    }
+    printf("boundary: %u checks, %u failed\n", checks, failed);
+    return failed != 0;
+}

@@ -1,0 +1,579 @@
+//! The comparison's inputs: files valid and damaged, the call's arguments at and beside their borders, and where the buffers lie.
+//! Everything follows from the seed and the case's number.
+
+use crate::files::{extension, Header, EXTENSIONS, NO_EXTENSIONS, OFFSET_352};
+use crate::memory::Where;
+use crate::rules::{self, Edit, Known, Order, DATATYPES, REGION, REGION_LIMIT};
+
+/// The most bytes that a lent buffer has: a region that ends at 2^27, an image behind it and some.
+pub const LARGEST: usize = REGION_LIMIT as usize + (1 << 16);
+/// Zero bytes to lend: a pair's longest image file and some.
+pub const ZEROS: usize = (rules::IMAGE_LIMIT + REGION_LIMIT + 4096) as usize;
+/// Bytes to lend that may not be read.
+pub const CLOSED: usize = 1 << 20;
+
+/// Steele, Lea and Flood's splitmix64.
+pub struct Random(u64);
+
+impl Random {
+    pub fn new(seed: u64, number: u64) -> Random {
+        let mut random = Random(seed.wrapping_mul(0xd134_2543_de82_ef95) ^ number);
+        Random(random.next())
+    }
+
+    pub fn next(&mut self) -> u64 {
+        self.0 = self.0.wrapping_add(0x9e37_79b9_7f4a_7c15);
+        let a = (self.0 ^ self.0 >> 30).wrapping_mul(0xbf58_476d_1ce4_e5b9);
+        let b = (a ^ a >> 27).wrapping_mul(0x94d0_49bb_1331_11eb);
+        b ^ b >> 31
+    }
+
+    pub fn below(&mut self, bound: u64) -> u64 {
+        self.next() % bound.max(1)
+    }
+
+    fn size(&mut self, bound: usize) -> usize {
+        self.below(bound as u64) as usize
+    }
+
+    /// Once in n.
+    fn once_in(&mut self, n: u64) -> bool {
+        self.below(n) == 0
+    }
+
+    fn pick<T: Copy>(&mut self, of: &[T]) -> T {
+        of[self.size(of.len())]
+    }
+
+    fn bytes(&mut self, length: usize) -> Vec<u8> {
+        (0..length.div_ceil(8)).flat_map(|_| self.next().to_le_bytes()).take(length).collect()
+    }
+}
+
+#[derive(Clone, Copy, PartialEq, Debug)]
+pub enum Call {
+    Read,
+    ExtensionAt { number: u64 },
+    Voxel { index: [u64; 7] },
+    SliceAt { slice: u64 },
+    PositionOf { index: [u64; 3] },
+    Swap,
+    Append { file_len: u64, code: i32 },
+    Replace { file_len: u64, number: u64, code: i32 },
+    Remove { file_len: u64, number: u64 },
+}
+
+/// The image, or an edit's payload.
+#[derive(Clone)]
+pub enum Other {
+    Own(Vec<u8>),
+    /// So many of the zero bytes, which can't be written.
+    Zeros(usize),
+    /// So many bytes that can't be read: a single file's image.
+    Closed(usize),
+}
+
+/// One call with all that it is given. `main` is the file, or an edit's whole buffer.
+#[derive(Clone)]
+pub struct Case {
+    pub call: Call,
+    pub main: Vec<u8>,
+    pub other: Other,
+    pub main_at: Where,
+    pub other_at: Where,
+}
+
+/// Dims whose image is at, just above or far above the limit, or passes 2^32 or 2^64.
+const LONG_DIMS: [&[i16]; 12] = [
+    &[16384, 16384, 4096],
+    &[16384, 16384, 4097],
+    &[16384, 16384, 2048],
+    &[16384, 16384, 1024],
+    &[16384, 16384, 512],
+    &[16384, 16384, 256, 1, 1, 1, 1],
+    &[16384, 16384, 128],
+    &[16384, 16384, 16],
+    &[32767, 32767, 1024],
+    &[16384, 16384, 16384, 16384, 256],
+    &[32767, 32767, 32767, 32767, 32767, 32767, 32767],
+    &[1, 16384, 2, 16384, 2, 16384, 16384],
+];
+
+fn dims(random: &mut Random, voxel_bytes: usize) -> Vec<i16> {
+    let axes = 1 + random.size(7);
+    let mut room = random.pick(&[256, 1024, 1024, 4096, 16384]) / voxel_bytes;
+    let mut dim = || {
+        let most = random.pick(&[1, 2, 3, 7, 9, 40]).min(room);
+        let d = 1 + random.size(most);
+        room /= d;
+        d as i16
+    };
+    (0..axes).map(|_| dim()).collect()
+}
+
+fn float(random: &mut Random) -> f32 {
+    let special =
+        [0.0, -0.0, f32::INFINITY, f32::NEG_INFINITY, f32::NAN, f32::MAX, f32::MIN, f32::MIN_POSITIVE, 1e-45, 2e38, -2e38];
+    let sign = random.pick(&[1.0, -1.0]);
+    match random.below(4) {
+        0 => random.pick(&special),
+        1 => f32::from_bits(random.next() as u32),
+        2 => sign * random.below(9) as f32,
+        _ => sign * f32::from_bits(0x3c00_0000 + random.below(0x0a00_0000) as u32),
+    }
+}
+
+/// dim_info, slice_code, slice_start, slice_end and slice_duration, most often such that timing is stated.
+fn slices(random: &mut Random, header: &mut Header, dims: &[i16]) {
+    let longest = (1..=dims.len().min(3)).max_by_key(|&axis| dims[axis - 1]).unwrap_or(1);
+    let slice_dim = if random.once_in(5) { random.size(4) } else { longest };
+    header.bytes[39] = (random.next() as u8 & 0xcf) | (slice_dim as u8) << 4;
+    header.bytes[122] = if random.once_in(8) { random.pick(&[0, 7, 8, 128, 255]) } else { 1 + random.size(6) as u8 };
+    let slices = dims.get(slice_dim.wrapping_sub(1)).copied().unwrap_or(5);
+    let start = inside(random, slices.max(1) as u64 - 1) as i16;
+    let end = start + 1 + inside(random, (slices.max(1) - start) as u64 - 1) as i16;
+    let borders = [-32768, -1, 0, start, slices.wrapping_sub(1), slices, slices.wrapping_add(1), 32767];
+    header.set16(74, if random.once_in(12) { random.pick(&borders) } else { start });
+    header.set16(120, if random.once_in(12) { random.pick(&borders) } else { end });
+    let duration = match random.below(4) {
+        0 => random.pick(&[0.1, 1e-45, 1e-39, f32::MAX, 1e38, 2e38, f32::MIN_POSITIVE]),
+        1 if random.once_in(4) => float(random),
+        _ => f32::from_bits(0x3c00_0000 + random.below(0x0a00_0000) as u32),
+    };
+    header.set32(132, duration.to_bits());
+}
+
+/// sform_code and the twelve srow numbers.
+fn srow(random: &mut Random, header: &mut Header) {
+    header.set16(254, if random.once_in(12) { random.pick(&[0, -1, -32768]) } else { random.pick(&[1, 2, 4, 256, 32767]) });
+    let manner = random.below(8);
+    for number in 0..12 {
+        let sign = random.pick(&[1.0, -1.0]);
+        let value = match manner {
+            0..=1 => {
+                let most = if number % 4 == 3 { 8_388_608 } else { 64 };
+                sign * inside(random, most + 1) as f32
+            }
+            2..=3 => sign * f32::from_bits(0x3c00_0000 + random.below(0x0a00_0000) as u32),
+            4 => sign * random.below(2) as f32,
+            5 => sign * f32::from_bits(0x7d00_0000 + random.below(0x0200_0000) as u32),
+            6 if random.once_in(6) => float(random),
+            7 => float(random),
+            _ => sign * random.below(1000) as f32 / 8.0,
+        };
+        header.set32(280 + 4 * number, value.to_bits());
+    }
+}
+
+/// The extender and what follows it in the region.
+fn region(random: &mut Random, order: Order) -> Vec<u8> {
+    if random.once_in(3) {
+        let private = if random.once_in(2) { 0 } else { random.size(70) };
+        return [&NO_EXTENSIONS[..], &random.bytes(private)].concat();
+    }
+    let count = random.pick(&[1, 1, 1, 2, 2, 3, 4, 8, 30, 63, 64, 64, 65]);
+    let mut region = EXTENSIONS.to_vec();
+    for _ in 0..count {
+        let size = if random.once_in(20) { 16 * (1 + random.size(200)) } else { 16 * (1 + random.size(3)) };
+        let any = random.next() as i32 & i32::MAX;
+        let code = random.pick(&[0, 2, 4, 6, 12, 1, i32::MAX, any]);
+        region.extend(extension(order, size as i32, code, &random.bytes(size - 8)));
+    }
+    region
+}
+
+/// A file that is accepted, but for a 65th extension and, once in a while, an image that is too long.
+fn valid_file(random: &mut Random) -> Vec<u8> {
+    let order = random.pick(&[Order::Little, Order::Big]);
+    let pair = random.once_in(2);
+    let (datatype, bits, _) = random.pick(&DATATYPES);
+    let voxel_bytes = bits as usize / 8;
+    let long = random.once_in(if pair { 16 } else { 64 });
+    let dims = if long { random.pick(&LONG_DIMS).to_vec() } else { dims(random, voxel_bytes) };
+    let unused = if random.once_in(2) { random.bytes(348) } else { Vec::new() };
+    let mut header = Header::over(unused, order, pair).dims(&dims).datatype(datatype);
+    slices(random, &mut header, &dims);
+    srow(random, &mut header);
+    let region = region(random, order);
+    if pair {
+        let small = (random.below(600) as f32).to_bits();
+        let offset = random.pick(&[0, 0, 0x8000_0000, OFFSET_352, 0x4180_0000, 0x4d00_0000, small, small]);
+        let length = if random.once_in(4) { random.pick(&[0, 0, 0, 0, 4, 4, 1, 2, 3]) } else { region.len() };
+        return header.offset(offset).file(&[&region[..length]]);
+    }
+    let image_bytes = if long { 12 } else { dims.iter().map(|&d| d as usize).product::<usize>() * voxel_bytes };
+    let after = if random.once_in(2) { 0 } else { random.size(40) };
+    let offset = (348 + region.len()) as f32;
+    let image = random.bytes(image_bytes + after);
+    header.offset(offset.to_bits()).file(&[&region, &image])
+}
+
+/// Offsets at and beside every border: 0, -0, 1, 351, 352, 353, 352.5, 2^24, 2^27 and its neighbours, the largest, infinity, NaN,
+/// the least subnormal, -1, -0.5.
+const OFFSETS: [u32; 24] = [
+    0, 0x8000_0000, 0x3f80_0000, 0x43af_8000, 0x43b0_0000, 0x43b0_8000, 0x43b0_4000, 0x43af_ffff, 0x43b0_0001, 0x4b7f_ffff,
+    0x4b80_0000, 0x4cff_ffff, 0x4d00_0000, 0x4d00_0001, 0x7f7f_ffff, 0x7f80_0000, 0xff80_0000, 0x7fc0_0000, 0x7f80_0001, 1,
+    0x8000_0001, 0xbf80_0000, 0xbf00_0000, 0x3f00_0000,
+];
+
+const DATATYPES_REFUSED: [i16; 14] = [0, 1, 3, 5, 255, 257, 127, 129, 2303, 2305, 2560, -2, -32768, 32767];
+
+/// Sizes of an extension at and beside their borders.
+const SIZES: [u32; 12] = [0, 1, 8, 15, 16, 17, 24, 32, 0xffff_fff0, 0x8000_0000, 0x7fff_fff0, 0x7fff_ffff];
+
+const CODES: [i32; 8] = [0, 2, 4, 6, i32::MAX, i32::MAX - 1, 1, 40];
+
+/// Where an extension may begin, in a file of either order, damaged or not.
+fn some_extension(random: &mut Random, file: &[u8], order: Order) -> usize {
+    let mut start = REGION as usize;
+    for _ in 0..random.size(66) {
+        if start + 4 > file.len() {
+            break;
+        }
+        let size = rules::i32_at(file, start, order);
+        if size <= 0 || start + size as usize + 8 > file.len() {
+            break;
+        }
+        start += size as usize;
+    }
+    start
+}
+
+fn set(file: &mut [u8], at: usize, bytes: &[u8]) {
+    if let Some(field) = file.get_mut(at..at + bytes.len()) {
+        field.copy_from_slice(bytes);
+    }
+}
+
+fn set16(file: &mut [u8], at: usize, value: i16, order: Order) {
+    set(file, at, &if order == Order::Little { value.to_le_bytes() } else { value.to_be_bytes() });
+}
+
+fn set32(file: &mut [u8], at: usize, value: u32, order: Order) {
+    set(file, at, &rules::bytes_of_u32(value, order));
+}
+
+/// One fault, or one field moved to a border that may be none.
+fn damage(random: &mut Random, file: &mut Vec<u8>) {
+    let order = if file.get(40) == Some(&0) { Order::Big } else { Order::Little };
+    let borders = [-32768, -1, 0, 1, 2, 7, 8, 255, 256, 257, 0x0107, 0x0700, 1792, 32767];
+    match random.below(16) {
+        0 => {
+            let at = random.size(file.len().min(352));
+            file[at..].iter_mut().take(1).for_each(|byte| *byte ^= 1 << random.below(8));
+        }
+        1 => {
+            let at = random.size(file.len());
+            file[at..].iter_mut().take(1).for_each(|byte| *byte = random.next() as u8);
+        }
+        2 => file.truncate(random.size(file.len() + 1)),
+        3 => file.truncate(random.pick(&[0, 1, 347, 348, 349, 350, 351, 352, 353, 359, 360, 363, 367, 368])),
+        4 => file.truncate(file.len().saturating_sub(1 + random.size(20))),
+        5 => {
+            let more = 1 + random.size(20);
+            file.extend(random.bytes(more));
+        }
+        6 => set16(file, 40, random.pick(&borders), order),
+        7 => set32(file, 0, random.pick(&[0, 347, 349, 540, 348 << 16, 0x5c01_0000, 0x8000_015c]), order),
+        8 => set(file, 344, random.pick(&[b"n+1\0", b"ni1\0", b"n+2\0", b"nil\0", b"n+1 ", b"\0\0\0\0", b"n+1\x01", b"N+1\0"])),
+        9 => {
+            let at = 40 + 2 * (1 + random.size(7));
+            set16(file, at, random.pick(&borders), order);
+        }
+        10 => set16(file, 70, random.pick(&DATATYPES_REFUSED), order),
+        11 => {
+            let at = random.pick(&[70, 72]);
+            set16(file, at, random.pick(&[2, 4, 8, 16, 24, 32, 64, 128, 256, 512, 768, 1024, 1536, -8, 0]), order);
+        }
+        12 => set32(file, 108, random.pick(&OFFSETS), order),
+        13 => {
+            set(file, 348, random.pick(&[&[1, 0, 0, 0], &[0, 0, 0, 0], &[1, 0, 0, 1], &[0, 0, 0, 1], &[2, 0, 0, 0], &[0, 1, 0, 0]]))
+        }
+        14 => {
+            let start = some_extension(random, file, order);
+            let left = file.len().saturating_sub(start) as u32;
+            let near = [left, left & !15, (left & !15) + 16];
+            let size = if random.once_in(4) { random.pick(&near) } else { random.pick(&SIZES) };
+            set32(file, start, size, order);
+        }
+        _ => {
+            let start = some_extension(random, file, order);
+            set32(file, start + 4, random.pick(&[0xffff_ffff, 0x8000_0000, 0x8000_0001, 0x7fff_ffff, 0]), order);
+        }
+    }
+}
+
+/// A file, in two of five cases damaged.
+pub fn file(random: &mut Random) -> Vec<u8> {
+    if random.once_in(400) {
+        let length = random.size(500);
+        return random.bytes(length);
+    }
+    let mut file = valid_file(random);
+    if random.below(5) < 2 {
+        for _ in 0..1 + random.size(2) {
+            damage(random, &mut file);
+        }
+    }
+    file
+}
+
+/// A file for a call that names an extension: most often it has some.
+fn extended_file(random: &mut Random) -> Vec<u8> {
+    let first = file(random);
+    match rules::read(&first) {
+        Ok(known) if known.spans.is_empty() && !random.once_in(4) => extended_file(random),
+        _ => first,
+    }
+}
+
+/// A number below the bound, now and then its last.
+fn inside(random: &mut Random, bound: u64) -> u64 {
+    let any = random.below(bound);
+    random.pick(&[0, bound.saturating_sub(1), any, any])
+}
+
+/// A number at or past the bound, some of which a narrower number would take for one below it.
+fn outside(random: &mut Random, bound: u64) -> u64 {
+    let low = random.below(bound);
+    random.pick(&[bound, bound + 1, (1 << 16) + low, (1 << 32) + low, 1 << 32, 1 << 63, (1 << 63) + low, u64::MAX])
+}
+
+fn number(random: &mut Random, bound: u64) -> u64 {
+    if bound == 0 || random.once_in(4) {
+        outside(random, bound)
+    } else {
+        inside(random, bound)
+    }
+}
+
+/// Indexes for the first axes; in one case of four one is outside its axis.
+fn indexes<const N: usize>(random: &mut Random, known: Option<&Known>) -> [u64; N] {
+    let lengths: [u64; N] = std::array::from_fn(|i| known.map_or(3, |known| known.axis(i + 1)));
+    let mut index = lengths.map(|length| inside(random, length));
+    if random.once_in(4) {
+        let axis = random.size(N);
+        index[axis] = outside(random, lengths[axis]);
+    }
+    index
+}
+
+/// Own bytes for an image, or bytes that a single file's call must leave alone.
+fn unread_image(random: &mut Random) -> Other {
+    let length = random.size(100);
+    match random.below(3) {
+        0 => Other::Own(Vec::new()),
+        1 => Other::Own(random.bytes(length)),
+        _ => Other::Closed(random.pick(&[0, 1, length, CLOSED])),
+    }
+}
+
+fn image(random: &mut Random, known: Option<&Known>, written: bool) -> Other {
+    let Some(known) = known else {
+        let length = random.size(100);
+        return Other::Own(random.bytes(length));
+    };
+    if !known.pair {
+        return unread_image(random);
+    }
+    let need = known.offset + known.image_bytes;
+    let (more, fewer) = (need + 1 + random.below(40), random.below(need));
+    let length = random.pick(&[need, need, need, need, need + 1, more, need - 1, fewer, 0]) as usize;
+    if length <= 20_000 {
+        Other::Own(random.bytes(length))
+    } else if written {
+        Other::Own(random.bytes(length % 1000))
+    } else {
+        Other::Zeros(length)
+    }
+}
+
+/// Payloads whose stored size is past 2^27, or at or past what 31 or 32 bits hold.
+const LONG_PAYLOADS: [u64; 6] = [1 << 27, (1 << 31) - 24, (1 << 31) - 8, 1 << 31, (1 << 32) - 8, (1 << 32) + 5];
+
+/// Payloads up to 40 bytes, longer ones, and, without touching them, ones that would end the region at or past 2^27.
+/// `replaced` is the size of the extension that makes room.
+fn payload(random: &mut Random, file: &[u8], replaced: u64) -> Other {
+    if random.once_in(12) {
+        let listed: u64 = rules::read(file).map_or(0, |known| known.spans.iter().map(|span| span.size as u64).sum());
+        let fits = REGION_LIMIT - REGION - 8 - (listed - replaced);
+        let near = [fits, fits, fits + 1, fits + 16, fits - 15];
+        let length = if random.once_in(2) { random.pick(&near) } else { random.pick(&LONG_PAYLOADS) };
+        return Other::Zeros(length as usize);
+    }
+    let length = if random.once_in(10) { random.size(3000) } else { random.size(41) };
+    Other::Own(random.bytes(length))
+}
+
+/// A buffer that holds the file, and the stated length. Most often the result fits exactly or by some bytes; else it is one byte too
+/// long, or no byte is spare. Once in a while the stated length is not the file's.
+fn buffer(random: &mut Random, file: Vec<u8>, edit: &Edit) -> (Vec<u8>, u64) {
+    let length = file.len();
+    let roomy = match *edit {
+        Edit::Append { payload, .. } | Edit::Replace { payload, .. } if payload.len() < 10_000 => length + payload.len() + 32,
+        _ => length,
+    };
+    let mut main = file;
+    main.resize(roomy, 0);
+    let needed = rules::edit(&main, length as u64, edit).map_or(length, |done| done.1 as usize);
+    main.truncate(length);
+    let spare = random.size(100);
+    let one_short = needed.saturating_sub(1);
+    let whole = random.pick(&[needed, needed, needed, needed + spare, needed + spare, one_short, length, length + spare]);
+    let rest = random.bytes(whole.saturating_sub(length));
+    main.extend(rest);
+    let whole = main.len() as u64;
+    let stated = match random.below(24) {
+        0 => random.pick(&[whole + 1, whole + 16, (1 << 32) + length as u64, 1 << 63, u64::MAX]),
+        1 => random.below(length as u64 + 1),
+        2 => (length as u64).saturating_sub(1 + random.below(20)),
+        3 => whole,
+        _ => length as u64,
+    };
+    (main, stated)
+}
+
+fn code(random: &mut Random) -> i32 {
+    if random.once_in(10) {
+        random.pick(&[-1, i32::MIN, i32::MIN + 1, -16])
+    } else {
+        random.pick(&CODES)
+    }
+}
+
+fn place(random: &mut Random, length: usize) -> Where {
+    match random.below(4) {
+        0 if length == 0 => Where::Null,
+        0 => Where::Front,
+        1 | 2 => Where::Back,
+        _ => Where::Inside(64 + random.size(17)),
+    }
+}
+
+fn other_bytes<'a>(other: &'a Other, zeros: &'a [u8]) -> &'a [u8] {
+    match other {
+        Other::Own(bytes) => bytes,
+        Other::Zeros(length) => &zeros[..*length],
+        Other::Closed(_) => &[],
+    }
+}
+
+impl Case {
+    /// The image or payload, as the rules see it.
+    pub fn other<'a>(&'a self, zeros: &'a [u8]) -> &'a [u8] {
+        other_bytes(&self.other, zeros)
+    }
+
+    fn at(call: Call, main: Vec<u8>, other: Other) -> Case {
+        Case { call, main, other, main_at: Where::Back, other_at: Where::Back }
+    }
+
+    /// The case of this number.
+    pub fn new(seed: u64, number_of_case: u64, zeros: &[u8]) -> Case {
+        let random = &mut Random::new(seed, number_of_case);
+        let call = random.below(20);
+        let file = if matches!(call, 2 | 16..) { extended_file(random) } else { file(random) };
+        let known = rules::read(&file).ok();
+        let known = known.as_ref();
+        let none = Other::Own(Vec::new());
+        let count = known.map_or(0, |known| known.spans.len() as u64);
+        let (call, main, other) = match call {
+            0 | 1 => (Call::Read, file, none),
+            2 => (Call::ExtensionAt { number: number(random, count) }, file, none),
+            3..=5 => (Call::Voxel { index: indexes(random, known) }, file, image(random, known, false)),
+            6 | 7 => (Call::SliceAt { slice: slice(random, &file, known) }, file, none),
+            8 | 9 => (Call::PositionOf { index: indexes(random, known) }, file, none),
+            10..=12 => (Call::Swap, file, image(random, known, true)),
+            13..=15 => append(random, file, zeros),
+            16..=18 => replace(random, file, known, zeros),
+            _ => {
+                let number = number(random, count);
+                let (main, file_len) = buffer(random, file, &Edit::Remove { number });
+                (Call::Remove { file_len, number }, main, none)
+            }
+        };
+        let main_at = place(random, main.len());
+        let other_at = place(random, other_bytes(&other, zeros).len());
+        Case { call, main, other, main_at, other_at }
+    }
+}
+
+fn append(random: &mut Random, file: Vec<u8>, zeros: &[u8]) -> (Call, Vec<u8>, Other) {
+    let code = code(random);
+    let other = payload(random, &file, 0);
+    let (main, file_len) = buffer(random, file, &Edit::Append { code, payload: other_bytes(&other, zeros) });
+    (Call::Append { file_len, code }, main, other)
+}
+
+fn replace(random: &mut Random, file: Vec<u8>, known: Option<&Known>, zeros: &[u8]) -> (Call, Vec<u8>, Other) {
+    let spans = known.map_or(&[][..], |known| &known.spans);
+    let number = number(random, spans.len() as u64);
+    let code = code(random);
+    let old = usize::try_from(number).ok().and_then(|number| spans.get(number)).map_or(0, |span| span.size as u64);
+    let other = payload(random, &file, old);
+    let (main, file_len) = buffer(random, file, &Edit::Replace { number, code, payload: other_bytes(&other, zeros) });
+    (Call::Replace { file_len, number, code }, main, other)
+}
+
+/// A slice of the file's slice axis, or one outside it.
+fn slice(random: &mut Random, file: &[u8], known: Option<&Known>) -> u64 {
+    let slices = known.map_or(3, |known| known.axis(1 + (file[39] >> 4 & 3).saturating_sub(1) as usize));
+    number(random, slices)
+}
+
+/// The cases at 2^27 and 2^40, which take up to half a gigabyte while they run.
+pub const LARGE: u64 = 22;
+
+/// A single file with one extension whose region ends at 2^27, and twelve image bytes.
+fn single_at_limit(order: Order) -> Vec<u8> {
+    let size = (REGION_LIMIT - REGION) as usize;
+    let mut file = Header::new(order, false).dims(&[3, 2]).datatype(4).offset(0x4d00_0000).file(&[&EXTENSIONS]);
+    file.extend(extension(order, size as i32, 6, b"a note"));
+    file.resize(REGION_LIMIT as usize, 0x2e);
+    file.extend(1..=12);
+    file
+}
+
+/// A pair's header file of so many bytes with a zero extender, all but its header private.
+fn long_pair(length: u64) -> Vec<u8> {
+    let mut file = Header::new(Order::Big, true).dims(&[16384, 16384, 4096]).datatype(2).offset(0x4d00_0000).bytes;
+    file.resize(length as usize, 0);
+    file
+}
+
+pub fn large(number: u64) -> Case {
+    let none = || Other::Own(Vec::new());
+    let most = (REGION_LIMIT - REGION - 8) as usize;
+    let full = REGION_LIMIT + 12;
+    let a = |length: usize| {
+        let mut buffer = crate::files::file_a();
+        buffer.resize(length, 0x77);
+        buffer
+    };
+    let last = [16383, 16383, 4095, 0, 0, 0, 0];
+    let pair_image = (rules::IMAGE_LIMIT + REGION_LIMIT) as usize;
+    match number {
+        0 => Case::at(Call::Read, long_pair(REGION_LIMIT), none()),
+        1 => Case::at(Call::Read, long_pair(REGION_LIMIT + 1), none()),
+        2 => Case::at(Call::Append { file_len: REGION_LIMIT, code: 6 }, long_pair(REGION_LIMIT), none()),
+        3 => Case::at(Call::Voxel { index: last }, long_pair(348), Other::Zeros(pair_image)),
+        4 => Case::at(Call::Voxel { index: last }, long_pair(348), Other::Zeros(pair_image - 1)),
+        5 => Case::at(Call::Voxel { index: [0, 0, 4096, 0, 0, 0, 0] }, long_pair(348), Other::Zeros(pair_image)),
+        6 => Case::at(Call::Read, single_at_limit(Order::Little), none()),
+        7 => Case::at(Call::ExtensionAt { number: 0 }, single_at_limit(Order::Big), none()),
+        8 => Case::at(Call::Swap, single_at_limit(Order::Big), none()),
+        9 => Case::at(Call::Voxel { index: [2, 1, 0, 0, 0, 0, 0] }, single_at_limit(Order::Big), none()),
+        10 => Case::at(Call::Append { file_len: full, code: 6 }, single_at_limit(Order::Little), none()),
+        11 => Case::at(Call::Remove { file_len: full, number: 0 }, single_at_limit(Order::Big), none()),
+        12 => Case::at(Call::Replace { file_len: full, number: 0, code: 4 }, single_at_limit(Order::Little), Other::Zeros(most)),
+        13 => Case::at(Call::Replace { file_len: full, number: 0, code: 4 }, single_at_limit(Order::Big), Other::Zeros(most + 1)),
+        14 => Case::at(Call::Replace { file_len: full, number: 0, code: 4 }, single_at_limit(Order::Big), Other::Own(vec![9; 5])),
+        15 => Case::at(Call::Append { file_len: 364, code: 6 }, a(full as usize), Other::Zeros(most)),
+        16 => Case::at(Call::Append { file_len: 364, code: 6 }, a(full as usize - 1), Other::Zeros(most)),
+        17 => Case::at(Call::Append { file_len: 364, code: 6 }, a(full as usize), Other::Zeros(most + 1)),
+        18 => Case::at(Call::Append { file_len: 364, code: 6 }, a(full as usize - 16), Other::Zeros(most - 16)),
+        19 => Case::at(Call::Append { file_len: 352, code: 6 }, long_pair(REGION_LIMIT), Other::Zeros(most)),
+        20 => Case::at(Call::Append { file_len: 348, code: 6 }, long_pair(REGION_LIMIT), Other::Zeros(most + 1)),
+        _ => Case::at(Call::Swap, long_pair(348), none()),
+    }
+}

@@ -1,0 +1,343 @@
+//! Compares the library, called through its C interface, with the rules of 01-scope.md written a second time in rules.rs: the whole
+//! answer, the whole of every lent buffer, and the bytes beside it.
+//!
+//!     differential [--cases N] [--seed S] [--only CASE] [--self-check]
+//!
+//! It fails on any difference, and where a refusal that a call can give was never reached.
+
+mod cases;
+mod files;
+mod library;
+mod memory;
+mod rules;
+mod self_check;
+
+use cases::{Call, Case, Other};
+use library::*;
+use memory::{Area, Where};
+use rules::{Edit, Order, Refusal, Slice};
+use std::sync::atomic::Ordering;
+
+/// What a call leaves behind: its answer and the content of the two buffers.
+struct Outcome {
+    answer: Answer,
+    main: Vec<u8>,
+    other: Vec<u8>,
+}
+
+fn reply(done: Result<(u64, u64), Refusal>) -> Answer {
+    Answer::Reply(match done {
+        Ok((place, length)) => Reply { refusal: 0, place, length },
+        Err(no) => Reply { refusal: no.number, place: no.place, length: 0 },
+    })
+}
+
+fn file_answer(file: &[u8]) -> Answer {
+    Answer::File(match rules::read(file) {
+        Ok(known) => FileAnswer {
+            data_offset: known.offset,
+            data_bytes: known.image_bytes,
+            big_endian: (known.order == Order::Big) as u32,
+            pair: known.pair as u32,
+            dim: known.dim,
+            datatype: known.datatype,
+            bitpix: known.bitpix,
+            extensions: known.spans.len() as u32,
+            ..FileAnswer::default()
+        },
+        Err(no) => FileAnswer { refusal: no.number, place: no.place, ..FileAnswer::default() },
+    })
+}
+
+fn extension_answer(file: &[u8], number: u64) -> Answer {
+    Answer::Extension(match rules::extension_at(file, number) {
+        Ok(span) => ExtensionAnswer { start: span.start, size: span.size, code: span.code, ..ExtensionAnswer::default() },
+        Err(no) => ExtensionAnswer { refusal: no.number, place: no.place, ..ExtensionAnswer::default() },
+    })
+}
+
+fn slice_answer(file: &[u8], slice: u64) -> Answer {
+    Answer::Slice(match rules::slice_at(file, slice) {
+        Ok(Slice::Unstated) => SliceAnswer::default(),
+        Ok(Slice::Padding) => SliceAnswer { state: 1, ..SliceAnswer::default() },
+        Ok(Slice::Timed { rank, seconds }) => SliceAnswer { state: 2, rank, seconds: Float(seconds), ..SliceAnswer::default() },
+        Err(no) => SliceAnswer { refusal: no.number, place: no.place, ..SliceAnswer::default() },
+    })
+}
+
+fn position_answer(file: &[u8], index: [u64; 3]) -> Answer {
+    Answer::Position(match rules::position_of(file, index) {
+        Ok([x, y, z]) => PositionAnswer { x: Float(x), y: Float(y), z: Float(z), ..PositionAnswer::default() },
+        Err(no) => PositionAnswer { refusal: no.number, place: no.place, ..PositionAnswer::default() },
+    })
+}
+
+/// What the rules say of the case.
+fn by_rules(case: &Case, zeros: &[u8]) -> Outcome {
+    let main = &case.main;
+    let other = case.other(zeros);
+    let own = match &case.other {
+        Other::Own(bytes) => bytes.clone(),
+        _ => Vec::new(),
+    };
+    let kept = |answer| Outcome { answer, main: main.clone(), other: own.clone() };
+    let edited = |file_len, edit| match rules::edit(main, file_len, &edit) {
+        Ok((whole, length)) => Outcome { answer: reply(Ok((0, length))), main: whole, other: own.clone() },
+        Err(no) => kept(reply(Err(no))),
+    };
+    match case.call {
+        Call::Read => kept(file_answer(main)),
+        Call::ExtensionAt { number } => kept(extension_answer(main, number)),
+        Call::Voxel { index } => kept(reply(rules::voxel(main, other.len() as u64, index))),
+        Call::SliceAt { slice } => kept(slice_answer(main, slice)),
+        Call::PositionOf { index } => kept(position_answer(main, index)),
+        Call::Swap => match rules::swap(main, other) {
+            Ok((main, other)) => Outcome { answer: reply(Ok((0, 0))), main, other },
+            Err(no) => kept(reply(Err(no))),
+        },
+        Call::Append { file_len, code } => edited(file_len, Edit::Append { code, payload: other }),
+        Call::Replace { file_len, number, code } => edited(file_len, Edit::Replace { number, code, payload: other }),
+        Call::Remove { file_len, number } => edited(file_len, Edit::Remove { number }),
+    }
+}
+
+/// The memory that is lent, made once.
+struct Memory {
+    main: Area,
+    other: Area,
+    zeros: &'static [u8],
+    closed: *mut u8,
+}
+
+/// Calls the library.
+///
+/// # Safety
+/// Each pointer has as many bytes as the length beside it.
+unsafe fn call(call: Call, main: *mut u8, length: usize, other: *mut u8, other_len: usize) -> Answer {
+    match call {
+        Call::Read => Answer::File(vestumbral_read(main, length)),
+        Call::ExtensionAt { number } => Answer::Extension(vestumbral_extension_at(main, length, number)),
+        Call::Voxel { index: [a, b, c, d, e, f, g] } => {
+            Answer::Reply(vestumbral_voxel(main, length, other, other_len, a, b, c, d, e, f, g))
+        }
+        Call::SliceAt { slice } => Answer::Slice(vestumbral_slice_at(main, length, slice)),
+        Call::PositionOf { index: [i, j, k] } => Answer::Position(vestumbral_position_of(main, length, i, j, k)),
+        Call::Swap => Answer::Reply(vestumbral_swap(main, length, other, other_len)),
+        Call::Append { file_len, code } => Answer::Reply(vestumbral_append(main, length, file_len, code, other, other_len)),
+        Call::Replace { file_len, number, code } => {
+            Answer::Reply(vestumbral_replace(main, length, file_len, number, code, other, other_len))
+        }
+        Call::Remove { file_len, number } => Answer::Reply(vestumbral_remove(main, length, file_len, number)),
+    }
+}
+
+/// How the two buffers differ, in words; none where they are equal.
+fn buffer_difference(name: &str, rules: &[u8], library: &[u8], guards_kept: bool) -> Option<String> {
+    if let Some(at) = (0..rules.len()).find(|&at| rules[at] != library[at]) {
+        return Some(format!("{name} at {at}: rules {:02x}, library {:02x}", rules[at], library[at]));
+    }
+    (!guards_kept).then(|| format!("{name}: bytes beside it were changed"))
+}
+
+/// The rules' answer, and how the library differs from the rules.
+fn compare(case: &Case, memory: &mut Memory) -> (Answer, Option<String>) {
+    let expected = by_rules(case, memory.zeros);
+    let main = memory.main.lend(&case.main, case.main_at);
+    let own = match &case.other {
+        Other::Own(bytes) => bytes.as_slice(),
+        _ => &[],
+    };
+    let lent = memory.other.lend(own, if own.is_empty() && case.other_at != Where::Null { Where::Back } else { case.other_at });
+    let (other, other_len) = match case.other {
+        Other::Own(_) => (lent.pointer, lent.length),
+        Other::Zeros(length) => (memory.zeros.as_ptr() as *mut u8, length),
+        Other::Closed(length) => (memory.closed, length),
+    };
+    let answer = unsafe { call(case.call, main.pointer, main.length, other, other_len) };
+    let difference = if answer != expected.answer {
+        Some(format!("\n  rules   {:?}\n  library {:?}", expected.answer, answer))
+    } else {
+        buffer_difference("buffer", &expected.main, memory.main.content(&main), memory.main.guards_kept(&main)).or_else(|| {
+            buffer_difference("other buffer", &expected.other, memory.other.content(&lent), memory.other.guards_kept(&lent))
+        })
+    };
+    (expected.answer, difference)
+}
+
+/// Bytes as hexadecimal runs after their places; zeros are left out, and so is all past 65,536.
+fn hex(bytes: &[u8]) -> String {
+    let mut text = format!("{} bytes, zero but for", bytes.len());
+    let mut previous_zero = true;
+    for (at, &byte) in bytes.iter().enumerate().take(65_536) {
+        if byte != 0 {
+            text += &if previous_zero { format!(" {at}:{byte:02x}") } else { format!("{byte:02x}") };
+        }
+        previous_zero = byte == 0;
+    }
+    text
+}
+
+fn show(case: &Case) -> String {
+    let other = match &case.other {
+        Other::Own(bytes) => hex(bytes),
+        Other::Zeros(length) => format!("{length} zero bytes"),
+        Other::Closed(length) => format!("{length} bytes that can't be read"),
+    };
+    format!(
+        "  {:?}\n  file or buffer ({:?}): {}\n  image or payload ({:?}): {}",
+        case.call,
+        case.main_at,
+        hex(&case.main),
+        case.other_at,
+        other
+    )
+}
+
+/// The case with its bytes cleared, wherever a difference stays.
+fn reduce(case: &Case, memory: &mut Memory) -> Case {
+    let mut least = case.clone();
+    let mut step = least.main.len().next_power_of_two();
+    while step > 0 {
+        for from in (0..least.main.len()).step_by(step) {
+            let mut smaller = least.clone();
+            let to = (from + step).min(smaller.main.len());
+            smaller.main[from..to].fill(0);
+            if smaller.main != least.main && compare(&smaller, memory).1.is_some() {
+                least = smaller;
+            }
+        }
+        step /= 2;
+    }
+    if let Other::Own(bytes) = &mut least.other.clone() {
+        bytes.fill(0);
+        let smaller = Case { other: Other::Own(bytes.clone()), ..least.clone() };
+        if compare(&smaller, memory).1.is_some() {
+            least = smaller;
+        }
+    }
+    least
+}
+
+const CALLS: [&str; 9] = ["read", "extension", "voxel", "slice", "position", "swap", "append", "replace", "remove"];
+
+/// The refusals that each call can give.
+fn possible(call: usize) -> Vec<usize> {
+    let more: &[usize] = match CALLS[call] {
+        "extension" => &[18],
+        "voxel" => &[16, 17],
+        "slice" => &[17],
+        "position" => &[17, 23],
+        "swap" => &[16],
+        "append" => &[19, 20, 21, 22, 24],
+        "replace" => &[18, 19, 21, 22, 24],
+        "remove" => &[18, 24],
+        _ => &[],
+    };
+    (1..=15).chain(more.iter().copied()).collect()
+}
+
+fn call_number(call: &Call) -> usize {
+    match call {
+        Call::Read => 0,
+        Call::ExtensionAt { .. } => 1,
+        Call::Voxel { .. } => 2,
+        Call::SliceAt { .. } => 3,
+        Call::PositionOf { .. } => 4,
+        Call::Swap => 5,
+        Call::Append { .. } => 6,
+        Call::Replace { .. } => 7,
+        Call::Remove { .. } => 8,
+    }
+}
+
+/// How often each refusal, 0 for done, was reached by each call.
+type Counts = [[u64; 25]; 9];
+
+fn print_counts(counts: &Counts) {
+    println!("{:>9} {:>10}  by call: {}", "refusal", "cases", CALLS.map(|call| format!("{call:>9}")).concat());
+    for number in 0..25 {
+        let name = if number == 0 { "none".to_string() } else { number.to_string() };
+        let by_call = counts.map(|row| format!("{:>9}", row[number])).concat();
+        println!("{name:>9} {:>10}           {by_call}", counts.iter().map(|row| row[number]).sum::<u64>());
+    }
+}
+
+/// Which refusals were never reached.
+fn missing(counts: &Counts) -> Vec<String> {
+    let all = (0..9).flat_map(|call| possible(call).into_iter().map(move |number| (call, number)));
+    all.filter(|&(call, number)| counts[call][number] == 0).map(|(call, number)| format!("{number} by {}", CALLS[call])).collect()
+}
+
+struct Options {
+    cases: u64,
+    seed: u64,
+    only: Option<u64>,
+    self_check: bool,
+}
+
+fn options() -> Options {
+    let mut options = Options { cases: 100_000, seed: 1, only: None, self_check: false };
+    let mut words = std::env::args().skip(1);
+    while let Some(word) = words.next() {
+        let mut number = || words.next().and_then(|word| word.parse().ok()).unwrap_or_else(|| panic!("{word} takes a number"));
+        match word.as_str() {
+            "--cases" => options.cases = number(),
+            "--seed" => options.seed = number(),
+            "--only" => options.only = Some(number()),
+            "--self-check" => options.self_check = true,
+            _ => panic!("unknown word {word}"),
+        }
+    }
+    options
+}
+
+/// The case of this number; the large ones come first.
+fn case(seed: u64, number: u64, zeros: &[u8]) -> Case {
+    if number < cases::LARGE {
+        cases::large(number)
+    } else {
+        Case::new(seed, number, zeros)
+    }
+}
+
+fn main() {
+    let options = options();
+    if options.self_check {
+        self_check::run();
+        return;
+    }
+    memory::watch();
+    let area = || Area::new(cases::LARGEST);
+    let (zeros, closed) = (memory::zeros(cases::ZEROS), memory::closed(cases::CLOSED));
+    let mut memory = Memory { main: area(), other: area(), zeros, closed };
+    let mut counts: Counts = [[0; 25]; 9];
+    let mut differences = 0;
+    let numbers = options.only.map_or(0..options.cases, |only| only..only + 1);
+    for number in numbers {
+        memory::RUNNING.store(number, Ordering::Relaxed);
+        let case = case(options.seed, number, memory.zeros);
+        if options.only.is_some() {
+            println!("case {number} of seed {}\n{}", options.seed, show(&case));
+        }
+        let (answer, difference) = compare(&case, &mut memory);
+        counts[call_number(&case.call)][answer.refusal() as usize] += 1;
+        if difference.is_some() {
+            differences += 1;
+            if differences <= 5 {
+                let least = if number < cases::LARGE { case } else { reduce(&case, &mut memory) };
+                let difference = compare(&least, &mut memory).1.unwrap_or_default();
+                println!("DIFFERENT: case {number} of seed {}, reduced\n{}\n  {difference}", options.seed, show(&least));
+            }
+        }
+    }
+    if options.only.is_none() {
+        print_counts(&counts);
+        let missing = missing(&counts);
+        if !missing.is_empty() {
+            println!("refusals never reached: {}", missing.join(", "));
+        }
+        println!("differential: {} cases, {differences} differences", options.cases);
+        std::process::exit((differences > 0 || !missing.is_empty()) as i32);
+    }
+    std::process::exit((differences > 0) as i32);
+}

@@ -1,0 +1,465 @@
+//! The rules of 01-scope.md a second time, written from the paper alone, to compare the library with. Nothing here is fast and
+//! nothing is in place: an edit builds its fresh file, a swap turns a copy. Field places are those of source document 003.
+
+/// The longest pair's header file, and the last place at which an extension region may end.
+pub const REGION_LIMIT: u64 = 134_217_728;
+pub const IMAGE_LIMIT: u64 = 1_099_511_627_776;
+pub const MOST_EXTENSIONS: usize = 64;
+pub const HEADER: usize = 348;
+/// Where the extension region begins.
+pub const REGION: u64 = 352;
+
+/// A refusal of the table: its number and its place.
+#[derive(Clone, Copy, PartialEq, Eq, Debug)]
+pub struct Refusal {
+    pub number: u64,
+    pub place: u64,
+}
+
+fn refuse<T>(number: u64, place: u64) -> Result<T, Refusal> {
+    Err(Refusal { number, place })
+}
+
+#[derive(Clone, Copy, PartialEq, Eq, Debug)]
+pub enum Order {
+    Little,
+    Big,
+}
+
+pub fn u16_at(bytes: &[u8], at: usize, order: Order) -> u16 {
+    let pair = [bytes[at], bytes[at + 1]];
+    match order {
+        Order::Little => u16::from_le_bytes(pair),
+        Order::Big => u16::from_be_bytes(pair),
+    }
+}
+
+pub fn u32_at(bytes: &[u8], at: usize, order: Order) -> u32 {
+    let four = [bytes[at], bytes[at + 1], bytes[at + 2], bytes[at + 3]];
+    match order {
+        Order::Little => u32::from_le_bytes(four),
+        Order::Big => u32::from_be_bytes(four),
+    }
+}
+
+pub fn i16_at(bytes: &[u8], at: usize, order: Order) -> i16 {
+    u16_at(bytes, at, order) as i16
+}
+
+pub fn i32_at(bytes: &[u8], at: usize, order: Order) -> i32 {
+    u32_at(bytes, at, order) as i32
+}
+
+pub fn f32_at(bytes: &[u8], at: usize, order: Order) -> f32 {
+    f32::from_bits(u32_at(bytes, at, order))
+}
+
+pub fn bytes_of_u32(value: u32, order: Order) -> [u8; 4] {
+    match order {
+        Order::Little => value.to_le_bytes(),
+        Order::Big => value.to_be_bytes(),
+    }
+}
+
+/// Datatype, bits, swap unit in bytes.
+pub const DATATYPES: [(i16, i16, usize); 16] = [
+    (2, 8, 1),
+    (4, 16, 2),
+    (8, 32, 4),
+    (16, 32, 4),
+    (32, 64, 4),
+    (64, 64, 8),
+    (128, 24, 1),
+    (256, 8, 1),
+    (512, 16, 2),
+    (768, 32, 4),
+    (1024, 64, 8),
+    (1280, 64, 8),
+    (1536, 128, 16),
+    (1792, 128, 8),
+    (2048, 256, 16),
+    (2304, 32, 1),
+];
+
+/// The numbers of the header, which a swap turns round: place of the first, width, how many follow one another. The unused ones
+/// (extents, session_error, glmax, glmin) are among them; texts and single bytes are not.
+pub const NUMBERS: [(usize, usize, usize); 13] = [
+    (0, 4, 1),    // sizeof_hdr
+    (32, 4, 1),   // extents
+    (36, 2, 1),   // session_error
+    (40, 2, 8),   // dim
+    (56, 4, 3),   // intent_p1, intent_p2, intent_p3
+    (68, 2, 4),   // intent_code, datatype, bitpix, slice_start
+    (76, 4, 8),   // pixdim
+    (108, 4, 3),  // vox_offset, scl_slope, scl_inter
+    (120, 2, 1),  // slice_end
+    (124, 4, 6),  // cal_max, cal_min, slice_duration, toffset, glmax, glmin
+    (252, 2, 2),  // qform_code, sform_code
+    (256, 4, 6),  // quatern_b, _c, _d, qoffset_x, _y, _z
+    (280, 4, 12), // srow_x, srow_y, srow_z
+];
+
+#[derive(Clone, Copy, PartialEq, Eq, Debug)]
+pub struct Span {
+    pub start: u64,
+    pub size: i32,
+    pub code: i32,
+}
+
+/// What reading tells of an accepted file.
+#[derive(Clone, PartialEq, Eq, Debug)]
+pub struct Known {
+    pub order: Order,
+    pub pair: bool,
+    pub dim: [i16; 8],
+    pub datatype: i16,
+    pub bitpix: i16,
+    pub unit: usize,
+    pub offset: u64,
+    pub image_bytes: u64,
+    /// Where the extension region ends: vox_offset, or a pair's file length.
+    pub region_end: u64,
+    /// The extender is 1,0,0,0.
+    pub extended: bool,
+    pub spans: Vec<Span>,
+}
+
+impl Known {
+    pub fn axes(&self) -> usize {
+        self.dim[0] as usize
+    }
+
+    /// The length of axis 1..7; one after dim[0] has length 1.
+    pub fn axis(&self, axis: usize) -> u64 {
+        if axis <= self.axes() {
+            self.dim[axis] as u64
+        } else {
+            1
+        }
+    }
+
+    pub fn voxel_bytes(&self) -> u64 {
+        self.bitpix as u64 / 8
+    }
+}
+
+/// The byte order in which dim[0] is in 1..7.
+fn order_of(file: &[u8]) -> Option<Order> {
+    [Order::Little, Order::Big].into_iter().find(|&order| (1..=7).contains(&i16_at(file, 40, order)))
+}
+
+/// Refusals 1 to 15.
+pub fn read(file: &[u8]) -> Result<Known, Refusal> {
+    let length = file.len() as u64;
+    if file.len() < HEADER {
+        return refuse(1, 0);
+    }
+    let Some(order) = order_of(file) else {
+        return refuse(2, 40);
+    };
+    if i32_at(file, 0, order) != 348 {
+        return refuse(3, 0);
+    }
+    let pair = match file[344..348] {
+        [0x6e, 0x69, 0x31, 0x00] => true,
+        [0x6e, 0x2b, 0x31, 0x00] => false,
+        _ => return refuse(4, 344),
+    };
+    let dim: [i16; 8] = std::array::from_fn(|i| i16_at(file, 40 + 2 * i, order));
+    let axes = dim[0] as usize;
+    if let Some(i) = (1..=axes).find(|&i| dim[i] < 1) {
+        return refuse(5, 40 + 2 * i as u64);
+    }
+    let datatype = i16_at(file, 70, order);
+    let bitpix = i16_at(file, 72, order);
+    let Some(&(_, bits, unit)) = DATATYPES.iter().find(|row| row.0 == datatype) else {
+        return refuse(6, 70);
+    };
+    if bitpix != bits {
+        return refuse(7, 72);
+    }
+    let offset = f32_at(file, 108, order);
+    if !offset.is_finite() || offset < 0.0 || offset.fract() != 0.0 {
+        return refuse(8, 108);
+    }
+    if offset > REGION_LIMIT as f32 || (if pair { length > REGION_LIMIT } else { offset < 352.0 }) {
+        return refuse(9, 108);
+    }
+    let offset = offset as u64;
+    // seven axes of 15 bits and 32 bytes a voxel stay far below 128 bits
+    let image_bytes = dim[1..=axes].iter().map(|&d| d as u128).product::<u128>() * (bits as u128 / 8);
+    if image_bytes > IMAGE_LIMIT as u128 {
+        return refuse(10, 40);
+    }
+    let image_bytes = image_bytes as u64;
+    if !pair && length < offset + image_bytes {
+        return refuse(11, 108);
+    }
+    let extended = match file.get(348..352) {
+        None if length == 348 => false,
+        Some([0, 0, 0, 0]) => false,
+        Some([1, 0, 0, 0]) => true,
+        _ => return refuse(12, 348),
+    };
+    let region_end = if pair { length } else { offset };
+    let spans = if extended { list(file, region_end, order)? } else { Vec::new() };
+    Ok(Known { order, pair, dim, datatype, bitpix, unit, offset, image_bytes, region_end, extended, spans })
+}
+
+/// The extensions from 352 to the region's end; at least one. Refusals 13 to 15.
+fn list(file: &[u8], end: u64, order: Order) -> Result<Vec<Span>, Refusal> {
+    let mut spans = Vec::new();
+    let mut start = REGION;
+    loop {
+        if spans.len() == MOST_EXTENSIONS {
+            return refuse(15, start);
+        }
+        let left = end - start;
+        if left < 16 {
+            return refuse(13, start);
+        }
+        let size = i32_at(file, start as usize, order);
+        if size <= 0 || size % 16 != 0 || size as u64 > left {
+            return refuse(13, start);
+        }
+        let code = i32_at(file, start as usize + 4, order);
+        if code < 0 {
+            return refuse(14, start + 4);
+        }
+        spans.push(Span { start, size, code });
+        start += size as u64;
+        if start == end {
+            return Ok(spans);
+        }
+    }
+}
+
+/// Refusals 1 to 15, then 18.
+pub fn extension_at(file: &[u8], number: u64) -> Result<Span, Refusal> {
+    let known = read(file)?;
+    match known.spans.iter().enumerate().find(|(i, _)| *i as u64 == number) {
+        Some((_, span)) => Ok(*span),
+        None => refuse(18, 0),
+    }
+}
+
+/// Reading for a call that looks at the image too: 1 to 15, then 16 for a pair.
+fn read_with_image(file: &[u8], image_len: u64) -> Result<Known, Refusal> {
+    let known = read(file)?;
+    if known.pair && image_len < known.offset + known.image_bytes {
+        return refuse(16, 0);
+    }
+    Ok(known)
+}
+
+/// A voxel's place and length. Refusals 1 to 17.
+pub fn voxel(file: &[u8], image_len: u64, index: [u64; 7]) -> Result<(u64, u64), Refusal> {
+    let known = read_with_image(file, image_len)?;
+    if (1..=7).any(|axis| index[axis - 1] >= known.axis(axis)) {
+        return refuse(17, 0);
+    }
+    // i1 + dim[1] x (i2 + dim[2] x (i3 + ..)), from the inside out
+    let number = (1..=7).rev().fold(0, |inner, axis| index[axis - 1] + known.axis(axis) * inner);
+    Ok((known.offset + known.voxel_bytes() * number, known.voxel_bytes()))
+}
+
+fn turn_units(bytes: &mut [u8], unit: usize) {
+    for unit in bytes.chunks_exact_mut(unit) {
+        unit.reverse();
+    }
+}
+
+/// The file and the image file with their byte order turned. Refusals 1 to 16.
+pub fn swap(file: &[u8], image: &[u8]) -> Result<(Vec<u8>, Vec<u8>), Refusal> {
+    let known = read_with_image(file, image.len() as u64)?;
+    let (mut file, mut image) = (file.to_vec(), image.to_vec());
+    for (at, width, count) in NUMBERS {
+        turn_units(&mut file[at..at + width * count], width);
+    }
+    for span in &known.spans {
+        let start = span.start as usize;
+        turn_units(&mut file[start..start + 8], 4);
+    }
+    let holder = if known.pair { &mut image } else { &mut file };
+    let (from, to) = (known.offset as usize, (known.offset + known.image_bytes) as usize);
+    turn_units(&mut holder[from..to], known.unit);
+    Ok((file, image))
+}
+
+#[derive(Clone, Copy, PartialEq, Debug)]
+pub enum Slice {
+    Unstated,
+    Padding,
+    Timed { rank: u32, seconds: f32 },
+}
+
+/// The turn of slice s among start..end by slice_code 1..6.
+pub fn rank(code: u8, start: i64, end: i64, s: i64) -> i64 {
+    let n = end - start + 1;
+    let o = if code % 2 == 1 { s - start } else { end - s };
+    match code {
+        1 | 2 => o,
+        3 | 4 if o % 2 == 0 => o / 2,
+        3 | 4 => (n + 1) / 2 + (o - 1) / 2,
+        _ if o % 2 == 1 => (o - 1) / 2,
+        _ => n / 2 + o / 2,
+    }
+}
+
+/// Refusals 1 to 15; then unstated, 17, padding, and unstated again where the time is infinite.
+pub fn slice_at(file: &[u8], slice: u64) -> Result<Slice, Refusal> {
+    let known = read(file)?;
+    let slice_dim = (file[39] >> 4 & 3) as usize;
+    let start = i16_at(file, 74, known.order) as i64;
+    let end = i16_at(file, 120, known.order) as i64;
+    let code = file[122];
+    let duration = f32_at(file, 132, known.order);
+    let axis_stated = (1..=3).contains(&slice_dim) && slice_dim <= known.axes();
+    let time_stated = duration.is_finite() && duration > 0.0 && (1..=6).contains(&code);
+    if !axis_stated || !time_stated {
+        return Ok(Slice::Unstated);
+    }
+    let slices = known.dim[slice_dim] as i64;
+    if !(0 <= start && start < end && end < slices) {
+        return Ok(Slice::Unstated);
+    }
+    if slice >= slices as u64 {
+        return refuse(17, 0);
+    }
+    let s = slice as i64;
+    if s < start || s > end {
+        return Ok(Slice::Padding);
+    }
+    let rank = rank(code, start, end, s);
+    let seconds = rank as f32 * duration;
+    Ok(if seconds.is_infinite() { Slice::Unstated } else { Slice::Timed { rank: rank as u32, seconds } })
+}
+
+/// ((s0 x i + s1 x j) + s2 x k) + s3, each operation rounded to binary32.
+pub fn coordinate(row: [f32; 4], index: [u64; 3]) -> f32 {
+    let [i, j, k] = index.map(|n| n as f32);
+    let first = row[0] * i;
+    let second = row[1] * j;
+    let two = first + second;
+    let third = row[2] * k;
+    let three = two + third;
+    three + row[3]
+}
+
+/// Refusals 1 to 15, 17, then 23.
+pub fn position_of(file: &[u8], index: [u64; 3]) -> Result<[f32; 3], Refusal> {
+    let known = read(file)?;
+    if (1..=3).any(|axis| index[axis - 1] >= known.axis(axis)) {
+        return refuse(17, 0);
+    }
+    let srow: [[f32; 4]; 3] =
+        std::array::from_fn(|row| std::array::from_fn(|column| f32_at(file, 280 + 16 * row + 4 * column, known.order)));
+    let position = srow.map(|row| coordinate(row, index));
+    let sform_code = i16_at(file, 254, known.order);
+    if sform_code <= 0 || !srow.iter().flatten().chain(&position).all(|value| value.is_finite()) {
+        return refuse(23, 0);
+    }
+    Ok(position)
+}
+
+#[derive(Clone, Copy)]
+pub enum Edit<'a> {
+    Append { code: i32, payload: &'a [u8] },
+    Replace { number: u64, code: i32, payload: &'a [u8] },
+    Remove { number: u64 },
+}
+
+/// The bytes that an extension with such a payload takes: the least multiple of 16 that is at least L + 8.
+pub fn stored_size(payload: u64) -> u64 {
+    (payload + 8).next_multiple_of(16)
+}
+
+/// An extension of the edited file: one of the old file's, or the offered one.
+enum Entry<'a> {
+    Kept(&'a [u8]),
+    Offered(i32, &'a [u8]),
+}
+
+impl Entry<'_> {
+    fn size(&self) -> u64 {
+        match self {
+            Entry::Kept(bytes) => bytes.len() as u64,
+            Entry::Offered(_, payload) => stored_size(payload.len() as u64),
+        }
+    }
+
+    fn write(&self, order: Order, out: &mut Vec<u8>) {
+        match self {
+            Entry::Kept(bytes) => out.extend_from_slice(bytes),
+            Entry::Offered(code, payload) => {
+                let end = out.len() + self.size() as usize;
+                out.extend(bytes_of_u32(self.size() as u32, order));
+                out.extend(bytes_of_u32(*code as u32, order));
+                out.extend_from_slice(payload);
+                out.resize(end, 0);
+            }
+        }
+    }
+}
+
+/// The refusals that hang on the edit's arguments and not on its result: 18, 19, 20.
+fn check_arguments(known: &Known, edit: &Edit) -> Result<(), Refusal> {
+    let number = match *edit {
+        Edit::Replace { number, .. } | Edit::Remove { number } => Some(number),
+        Edit::Append { .. } => None,
+    };
+    if number.is_some_and(|number| number >= known.spans.len() as u64) {
+        return refuse(18, 0);
+    }
+    if matches!(*edit, Edit::Append { code, .. } | Edit::Replace { code, .. } if code < 0) {
+        return refuse(19, 0);
+    }
+    if matches!(edit, Edit::Append { .. }) && !known.extended && known.region_end > REGION {
+        return refuse(20, 0);
+    }
+    Ok(())
+}
+
+/// The list X with the edit.
+fn edited_list<'a>(file: &'a [u8], known: &Known, edit: &Edit<'a>) -> Vec<Entry<'a>> {
+    let kept = |span: &Span| Entry::Kept(&file[span.start as usize..span.start as usize + span.size as usize]);
+    let mut entries: Vec<Entry> = known.spans.iter().map(kept).collect();
+    match *edit {
+        Edit::Append { code, payload } => entries.push(Entry::Offered(code, payload)),
+        Edit::Replace { number, code, payload } => entries[number as usize] = Entry::Offered(code, payload),
+        Edit::Remove { number } => drop(entries.remove(number as usize)),
+    }
+    entries
+}
+
+/// The whole buffer afterwards and the new file length. Refusals 24, 1 to 15, 18 to 22.
+pub fn edit(buffer: &[u8], file_len: u64, edit: &Edit) -> Result<(Vec<u8>, u64), Refusal> {
+    if file_len > buffer.len() as u64 {
+        return refuse(24, 0);
+    }
+    let file = &buffer[..file_len as usize];
+    let known = read(file)?;
+    check_arguments(&known, edit)?;
+    let entries = edited_list(file, &known, edit);
+    let region_end = REGION + entries.iter().map(Entry::size).sum::<u64>();
+    if entries.len() > MOST_EXTENSIONS || region_end > REGION_LIMIT {
+        return refuse(21, 0);
+    }
+    let tail = if known.pair { &[] } else { &file[known.offset as usize..] };
+    let new_len = region_end + tail.len() as u64;
+    if new_len > buffer.len() as u64 {
+        return refuse(22, 0);
+    }
+    let mut whole = Vec::with_capacity(buffer.len());
+    whole.extend_from_slice(&file[..HEADER]);
+    if !known.pair {
+        // a multiple of 16 up to 2^27, so exact in binary32
+        whole[108..112].copy_from_slice(&bytes_of_u32((region_end as f32).to_bits(), known.order));
+    }
+    whole.extend([!entries.is_empty() as u8, 0, 0, 0]);
+    entries.iter().for_each(|entry| entry.write(known.order, &mut whole));
+    whole.extend_from_slice(tail);
+    whole.resize(whole.len().max(file.len()), 0);
+    whole.extend_from_slice(&buffer[whole.len()..]);
+    Ok((whole, new_len))
+}

@@ -1,0 +1,421 @@
+//! The second implementation held to values worked out by hand: the numbers of 01-scope.md ("Numbers on each side"), the timing
+//! table of source document 004, the examples of document 002, and the borders that docs/DECISIONS.md settles. Then laws that any
+//! right implementation obeys, on files made at random.
+
+use crate::cases;
+use crate::files::{extension, file_a, Header, EXTENSIONS, NO_EXTENSIONS, OFFSET_352};
+use crate::rules::*;
+use std::fmt::Debug;
+
+#[derive(Default)]
+struct Checks {
+    done: u32,
+    failed: u32,
+}
+
+impl Checks {
+    fn equal<T: PartialEq + Debug>(&mut self, name: &str, got: T, expected: T) {
+        self.done += 1;
+        if got != expected {
+            self.failed += 1;
+            println!("self-check {name}: got {got:?}, expected {expected:?}");
+        }
+    }
+
+    fn refused<T: Debug>(&mut self, name: &str, got: Result<T, Refusal>, number: u64, place: u64) {
+        self.equal(name, got.err(), Some(Refusal { number, place }));
+    }
+
+    fn holds(&mut self, name: &str, fact: bool) {
+        self.equal(name, fact, true);
+    }
+}
+
+const BIG: Order = Order::Big;
+const LITTLE: Order = Order::Little;
+
+fn single(order: Order) -> Header {
+    Header::new(order, false).dims(&[3, 2]).datatype(4).offset(OFFSET_352)
+}
+
+fn pair(order: Order) -> Header {
+    Header::new(order, true).dims(&[3, 2]).datatype(4)
+}
+
+/// A pair's header file with these extension bytes.
+fn pair_with(extensions: &[Vec<u8>]) -> Vec<u8> {
+    pair(LITTLE).file(&[&EXTENSIONS, &extensions.concat()])
+}
+
+fn note(size: i32, code: i32) -> Vec<u8> {
+    extension(LITTLE, size, code, &vec![0; size.max(8) as usize - 8])
+}
+
+fn changed(mut file: Vec<u8>, at: usize, bytes: &[u8]) -> Vec<u8> {
+    file[at..at + bytes.len()].copy_from_slice(bytes);
+    file
+}
+
+fn file_a_numbers(checks: &mut Checks) {
+    let a = file_a();
+    let nonzero: [(usize, u8); 12] = [
+        (0, 0x5c),
+        (1, 0x01),
+        (40, 2),
+        (42, 3),
+        (44, 2),
+        (70, 4),
+        (72, 0x10),
+        (110, 0xb0),
+        (111, 0x43),
+        (344, 0x6e),
+        (345, 0x2b),
+        (346, 0x31),
+    ];
+    let mut header = vec![0; 352];
+    nonzero.iter().for_each(|&(at, byte)| header[at] = byte);
+    checks.equal("file A's bytes", a[..352].to_vec(), header);
+    checks.equal("file A's length", a.len(), 364);
+    checks.refused("empty file", read(&[]), 1, 0);
+    checks.refused("347 bytes", read(&a[..347]), 1, 0);
+    checks.refused("348 zero bytes", read(&[0; 348]), 2, 40);
+    checks.refused("A cut to 363", read(&a[..363]), 11, 108);
+    let known = read(&a).unwrap();
+    checks.equal("A", (known.order, known.pair, known.offset, known.image_bytes), (LITTLE, false, 352, 12));
+    checks.equal("A's extensions", known.spans.len(), 0);
+    checks.equal("voxel (2,1) of A", voxel(&a, 0, [2, 1, 0, 0, 0, 0, 0]), Ok((362, 2)));
+    checks.refused("voxel (3,0) of A", voxel(&a, 0, [3, 0, 0, 0, 0, 0, 0]), 17, 0);
+    checks.refused("voxel (0,0,1) of A", voxel(&a, 0, [0, 0, 1, 0, 0, 0, 0]), 17, 0);
+}
+
+fn offsets(checks: &mut Checks) {
+    let in_single = |bits| read(&single(LITTLE).offset(bits).file(&[&NO_EXTENSIONS, &[0; 12]]));
+    let in_pair = |bits| read(&pair(BIG).offset(bits).bytes).map(|known| known.offset);
+    checks.equal("43B00000", in_single(0x43b0_0000).map(|known| known.offset), Ok(352));
+    checks.refused("43B04000", in_single(0x43b0_4000), 8, 108);
+    checks.refused("43AF8000 in a single file", in_single(0x43af_8000), 9, 108);
+    checks.equal("43AF8000 in a pair", in_pair(0x43af_8000), Ok(351));
+    checks.equal("4D000000 in a pair", in_pair(0x4d00_0000), Ok(134_217_728));
+    checks.refused("4D000000 in a short single file", in_single(0x4d00_0000), 11, 108);
+    checks.refused("4D000001 in a pair", in_pair(0x4d00_0001), 9, 108);
+    checks.refused("4D000001 in a single file", in_single(0x4d00_0001), 9, 108);
+    checks.equal("-0 in a pair", in_pair(0x8000_0000), Ok(0));
+    checks.refused("-0 in a single file", in_single(0x8000_0000), 9, 108);
+    checks.refused("0 in a single file", in_single(0), 9, 108);
+    checks.equal("2^24", in_pair(0x4b80_0000), Ok(16_777_216));
+    for (name, bits) in [("NaN", 0x7fc0_0000), ("infinity", 0x7f80_0000), ("-1", 0xbf80_0000), ("-0.5", 0xbf00_0000), ("least", 1)]
+    {
+        checks.refused(name, in_pair(bits), 8, 108);
+    }
+    checks.refused("the largest binary32", in_pair(0x7f7f_ffff), 9, 108);
+}
+
+fn images(checks: &mut Checks) {
+    let bytes =
+        |dims: &[i16], datatype| read(&Header::new(BIG, true).dims(dims).datatype(datatype).bytes).map(|known| known.image_bytes);
+    checks.equal("image limit", bytes(&[16384, 16384, 4096], 2), Ok(1_099_511_627_776));
+    checks.refused("twice the image limit", bytes(&[16384, 16384, 4096], 4), 10, 40);
+    checks.refused("2^64 image bytes", bytes(&[16384, 16384, 16384, 16384, 256], 2), 10, 40);
+    checks.refused("seven longest axes", bytes(&[32767; 7], 2048), 10, 40);
+    checks.equal("FMRI", bytes(&[64, 64, 20, 120], 4), Ok(19_660_800));
+    checks.equal("T1", bytes(&[256, 256, 128], 4), Ok(16_777_216));
+    checks.equal("EPI", bytes(&[64, 64, 1, 1200], 4), Ok(9_830_400));
+    checks.equal("3-vector", bytes(&[256, 256, 128, 1, 3], 16), Ok(100_663_296));
+    checks.equal("3x3 matrix", bytes(&[1, 1, 1, 1200, 9], 16), Ok(43_200));
+    checks.equal("VECTOR", bytes(&[64, 64, 20, 1, 3], 16), Ok(983_040));
+    checks.equal("TTEST", bytes(&[128, 128, 1, 1, 2], 16), Ok(131_072));
+    let vector = Header::new(LITTLE, true).dims(&[64, 64, 20, 1, 3]).datatype(16).bytes;
+    checks.equal("second component", voxel(&vector, 983_040, [0, 0, 0, 0, 1, 0, 0]), Ok((327_680, 4)));
+    checks.refused("image file one short", voxel(&vector, 983_039, [0; 7]), 16, 0);
+    checks.refused("16 before 17", voxel(&vector, 0, [64, 0, 0, 0, 0, 0, 0]), 16, 0);
+    for (code, bits) in [(2, 8), (4, 16), (8, 32), (16, 32), (32, 64), (64, 64), (128, 24), (256, 8)] {
+        checks.equal("bytes of a voxel", bytes(&[1], code), Ok(bits / 8));
+    }
+    for (code, bits) in [(512, 16), (768, 32), (1024, 64), (1280, 64), (1536, 128), (1792, 128), (2048, 256), (2304, 32)] {
+        checks.equal("bytes of a voxel", bytes(&[1], code), Ok(bits / 8));
+    }
+    for code in [0, 1, 255, 1200, -2, 32767] {
+        checks.refused("datatype", bytes(&[1], code), 6, 70);
+    }
+}
+
+fn headers(checks: &mut Checks) {
+    let a = file_a();
+    checks.refused("dim[0] 256 reads 1 in the other order", read(&changed(a.clone(), 40, &[0, 1])), 3, 0);
+    checks.refused("dim[0] 0x0107", read(&changed(a.clone(), 40, &[7, 1])), 2, 40);
+    checks.refused("sizeof_hdr 540", read(&changed(a.clone(), 0, &[0x1c, 2])), 3, 0);
+    checks.refused("magic nil", read(&changed(a.clone(), 344, b"nil\0")), 4, 344);
+    checks.refused("dim[2] 0", read(&changed(a.clone(), 44, &[0, 0])), 5, 44);
+    checks.refused("dim[1] -32768", read(&changed(a.clone(), 42, &[0, 0x80])), 5, 42);
+    checks.refused("bitpix 8", read(&changed(a.clone(), 72, &[8, 0])), 7, 72);
+    checks.holds("dim[3] -1 is not judged", read(&changed(a.clone(), 46, &[255, 255])).is_ok());
+    checks.holds("pixdim[4] 0 is not judged", f32_at(&a, 92, LITTLE) == 0.0 && read(&a).is_ok());
+    let before_12 = pair(LITTLE).dims(&[0]).file(&[&[0, 0]]);
+    checks.refused("5 before 12", read(&before_12), 5, 42);
+    for length in 349..352 {
+        checks.refused("pair of 349..351 bytes", read(&pair(BIG).file(&[&NO_EXTENSIONS])[..length]), 12, 348);
+    }
+    checks.holds("pair of 348 bytes", read(&pair(BIG).bytes).is_ok());
+    checks.refused("extender 1,0,0,1", read(&changed(a, 348, &[1, 0, 0, 1])), 12, 348);
+}
+
+fn extensions(checks: &mut Checks) {
+    let of = |extensions: &[Vec<u8>]| read(&pair_with(extensions)).map(|known| known.spans);
+    checks.refused("empty region of a pair", of(&[]), 13, 352);
+    checks.refused("empty region of a single file", read(&changed(file_a(), 348, &EXTENSIONS)), 13, 352);
+    let starts = of(&[note(16, 0), note(48, 2), note(32, 4)]).unwrap();
+    checks.equal("starts", starts.iter().map(|span| span.start).collect::<Vec<_>>(), vec![352, 368, 416]);
+    for code in [0, 1, 2, 4, 6, 8, 10, 12, 2_147_483_646, 2_147_483_647] {
+        checks.equal("code", of(&[note(16, code)]).unwrap()[0].code, code);
+    }
+    checks.refused("code -1", of(&[note(16, 0), note(16, -1)]), 14, 372);
+    for size in [0, 8, 24, -16, 32, 2_147_483_632, i32::MIN] {
+        checks.refused("size", of(&[extension(LITTLE, size, 0, &[0; 8])]), 13, 352);
+    }
+    for left in 1..16 {
+        checks.refused("bytes left over", of(&[note(16, 0), vec![0; left]]), 13, 368);
+    }
+    checks.equal("64 extensions", of(&vec![note(16, 0); 64]).unwrap().len(), 64);
+    checks.refused("65 extensions", of(&vec![note(16, 0); 65]), 15, 1376);
+    checks.refused("8 bytes after 64", of(&[vec![note(16, 0); 64], vec![vec![0; 8]]].concat()), 15, 1376);
+    checks.refused("no such extension", extension_at(&pair_with(&[note(16, 0)]), 1), 18, 0);
+    let unaligned = single(BIG).offset(354_f32.to_bits()).file(&[&EXTENSIONS, &[0; 2], &[0; 12]]);
+    checks.refused("unaligned region", read(&unaligned), 13, 352);
+}
+
+/// SEQ_INC, SEQ_DEC, ALT_INC, ALT_DEC, ALT_INC2, ALT_DEC2 of slices 1 to 5, ten times the times of document 004's table.
+const TIMING_TABLE: [[i64; 6]; 5] =
+    [[0, 4, 0, 2, 2, 4], [1, 3, 3, 4, 0, 1], [2, 2, 1, 1, 3, 3], [3, 1, 4, 3, 1, 0], [4, 0, 2, 0, 4, 2]];
+/// 0.0, 0.1, 0.2, 0.3, 0.4 in binary32.
+const TIMES: [u32; 5] = [0, 0x3dcc_cccd, 0x3e4c_cccd, 0x3e99_999a, 0x3ecc_cccd];
+
+fn timed_file(order: Order, code: u8, duration: u32) -> Vec<u8> {
+    let mut header = Header::new(order, true).dims(&[1, 1, 7]).datatype(2);
+    header.bytes[39] = 0x39;
+    header.bytes[122] = code;
+    header.set16(74, 1);
+    header.set16(120, 5);
+    header.set32(132, duration);
+    header.bytes
+}
+
+fn slices(checks: &mut Checks) {
+    for (row, ranks) in TIMING_TABLE.iter().enumerate() {
+        for (column, &rank) in ranks.iter().enumerate() {
+            let file = timed_file(if row % 2 == 0 { BIG } else { LITTLE }, column as u8 + 1, 0x3dcc_cccd);
+            let seconds = f32::from_bits(TIMES[rank as usize]);
+            checks.equal("timing table", slice_at(&file, row as u64 + 1), Ok(Slice::Timed { rank: rank as u32, seconds }));
+        }
+    }
+    let ranks = |code, n: i64| (1..=n).map(|s| rank(code, 1, n, s)).collect::<Vec<_>>();
+    let rows: [(u8, &[i64]); 14] = [
+        (1, &[0, 1, 2, 3]),
+        (2, &[3, 2, 1, 0]),
+        (3, &[0, 2, 1, 3]),
+        (4, &[3, 1, 2, 0]),
+        (5, &[2, 0, 3, 1]),
+        (6, &[1, 3, 0, 2]),
+        (3, &[0, 3, 1, 4, 2, 5]),
+        (4, &[5, 2, 4, 1, 3, 0]),
+        (5, &[3, 0, 4, 1, 5, 2]),
+        (6, &[2, 5, 1, 4, 0, 3]),
+        (5, &[1, 0]),
+        (6, &[0, 1]),
+        (3, &[0, 1]),
+        (4, &[1, 0]),
+    ];
+    for (code, row) in rows {
+        checks.equal("ranks of an even number of slices", ranks(code, row.len() as i64), row.to_vec());
+    }
+    let file = timed_file(BIG, 3, 0x3dcc_cccd);
+    checks.equal("slice 0", slice_at(&file, 0), Ok(Slice::Padding));
+    checks.equal("slice 6", slice_at(&file, 6), Ok(Slice::Padding));
+    checks.refused("slice 7", slice_at(&file, 7), 17, 0);
+    checks.equal("code 0, slice 7", slice_at(&timed_file(BIG, 0, 0x3dcc_cccd), 7), Ok(Slice::Unstated));
+    checks.equal("code 7", slice_at(&timed_file(BIG, 7, 0x3dcc_cccd), 1), Ok(Slice::Unstated));
+    for duration in [0, 0x8000_0000, 0xbdcc_cccd, 0x7f80_0000, 0x7fc0_0000] {
+        checks.equal("duration", slice_at(&timed_file(BIG, 1, duration), 1), Ok(Slice::Unstated));
+    }
+    let least = Slice::Timed { rank: 4, seconds: f32::from_bits(4) };
+    checks.equal("least duration", slice_at(&timed_file(BIG, 1, 1), 5), Ok(least));
+    let longest = timed_file(BIG, 1, 0x7f7f_ffff);
+    checks.equal("infinite time", slice_at(&longest, 3), Ok(Slice::Unstated));
+    checks.equal("padding beside infinite times", slice_at(&longest, 6), Ok(Slice::Padding));
+    checks.equal("rank 0 of the longest", slice_at(&longest, 1), Ok(Slice::Timed { rank: 0, seconds: 0.0 }));
+    checks.equal("spiral", slice_at(&changed(file.clone(), 39, &[0x30]), 0), Ok(Slice::Padding));
+    checks.equal("slice_dim 0", slice_at(&changed(file.clone(), 39, &[0xcf]), 0), Ok(Slice::Unstated));
+    checks.equal("slice_end 7", slice_at(&changed(file.clone(), 120, &[0, 7]), 1), Ok(Slice::Unstated));
+    checks.equal("slice_end 1", slice_at(&changed(file.clone(), 120, &[0, 1]), 1), Ok(Slice::Unstated));
+    checks.equal("slice_start -1", slice_at(&changed(file.clone(), 74, &[255, 255]), 1), Ok(Slice::Unstated));
+    checks.equal("slice_dim past dim[0]", slice_at(&changed(file, 40, &[0, 2]), 1), Ok(Slice::Unstated));
+}
+
+/// A pair of 300 x 300 x 300 with these srow numbers.
+fn placed_file(order: Order, sform_code: i16, srow: [u32; 12]) -> Vec<u8> {
+    let mut header = Header::new(order, true).dims(&[300, 300, 300]).datatype(2);
+    header.set16(254, sform_code);
+    srow.iter().enumerate().for_each(|(i, &bits)| header.set32(280 + 4 * i, bits));
+    header.bytes
+}
+
+fn bits(position: Result<[f32; 3], Refusal>) -> Result<[u32; 3], Refusal> {
+    position.map(|position| position.map(f32::to_bits))
+}
+
+fn positions(checks: &mut Checks) {
+    let f = f32::to_bits;
+    let mirrored = [1.0, 0.0, 0.0, -90.0, 0.0, -1.0, 0.0, 126.0, 0.0, 0.0, -1.0, 72.0].map(f);
+    let file = placed_file(BIG, 1, mirrored);
+    checks.equal("diag(1,-1,-1)", position_of(&file, [100, 200, 299]), Ok([10.0, -74.0, -227.0]));
+    checks.refused("index 300", position_of(&file, [0, 300, 0]), 17, 0);
+    checks.refused("17 before 23", position_of(&placed_file(BIG, 0, mirrored), [0, 300, 0]), 17, 0);
+    checks.refused("sform_code 0", position_of(&placed_file(BIG, 0, mirrored), [0; 3]), 23, 0);
+    checks.refused("sform_code -1", position_of(&placed_file(LITTLE, -1, mirrored), [0; 3]), 23, 0);
+    let row = [0xbf09_b16b, 0x4006_4993, 0xc07e_ebf5, 0xbedf_b1ad];
+    let rounded = placed_file(LITTLE, 2, [row, [0; 4], row].concat().try_into().unwrap());
+    checks.equal("rounding order", bits(position_of(&rounded, [185, 206, 59])), Ok([0x42c2_947a, 0, 0x42c2_947a]));
+    for bad in [f32::NAN, f32::INFINITY, f32::NEG_INFINITY] {
+        let mut srow = mirrored;
+        srow[6] = f(bad);
+        checks.refused("a number that is not finite", position_of(&placed_file(BIG, 1, srow), [0; 3]), 23, 0);
+    }
+    let mut srow = mirrored;
+    srow[4] = f(f32::MAX);
+    checks.refused("a result that is not finite", position_of(&placed_file(BIG, 1, srow), [2, 0, 0]), 23, 0);
+    checks.holds("the same at index 1", position_of(&placed_file(BIG, 1, srow), [1, 0, 0]).is_ok());
+    let minus = placed_file(BIG, 1, [0x8000_0000; 12]);
+    checks.equal("all terms -0", bits(position_of(&minus, [0; 3])), Ok([0x8000_0000; 3]));
+    let widest = [-64.0, -64.0, -64.0, -8_388_608.0].map(f);
+    let file = placed_file(LITTLE, 1, [widest, widest, widest].concat().try_into().unwrap());
+    checks.equal("whole numbers", position_of(&file, [299, 298, 297]), Ok([-(64.0 * 894.0 + 8_388_608.0); 3]));
+}
+
+fn swaps(checks: &mut Checks) {
+    let count = |width| NUMBERS.iter().filter(|row| row.1 == width).map(|row| row.2).sum::<usize>();
+    checks.equal("numbers of the header", (count(2), count(4)), (16, 40));
+    let mut header = single(LITTLE).offset(368_f32.to_bits());
+    header.set32(32, 16384);
+    header.bytes[38] = b'r';
+    header.bytes[123] = 10;
+    let payload = b"as it is";
+    let image = [1, 2, 3, 4, 5, 6, 7, 8, 9, 10, 11, 12];
+    let file = header.file(&[&EXTENSIONS, &note(16, 6)[..8], payload, &image, b"after"]);
+    let (swapped, _) = swap(&file, &[]).unwrap();
+    let mut big = single(BIG).offset(368_f32.to_bits());
+    big.set32(32, 16384);
+    big.bytes[38] = b'r';
+    big.bytes[123] = 10;
+    let turned = [2, 1, 4, 3, 6, 5, 8, 7, 10, 9, 12, 11];
+    let expected = big.file(&[&EXTENSIONS, &extension(BIG, 16, 6, payload), &turned, b"after"]);
+    checks.equal("extents", swapped[32..36].to_vec(), vec![0, 0, 0x40, 0]);
+    checks.equal("swapped single file", swapped, expected);
+    let image: Vec<u8> = (1..=40).collect();
+    let units: [(i16, usize); 6] = [(32, 4), (128, 1), (1536, 16), (1792, 8), (2048, 16), (2304, 1)];
+    for (datatype, unit) in units {
+        let file = Header::new(BIG, true).dims(&[1]).datatype(datatype).offset(0x3f80_0000).bytes;
+        let bytes = read(&file).unwrap().voxel_bytes() as usize;
+        let mut turned = image.clone();
+        turned[1..1 + bytes].chunks_mut(unit).for_each(|unit| unit.reverse());
+        checks.equal("unit", swap(&file, &image).map(|both| both.1), Ok(turned));
+    }
+}
+
+fn edits(checks: &mut Checks) {
+    for (payload, size) in [(0, 16), (8, 16), (9, 32), (24, 32), (25, 48)] {
+        checks.equal("stored size", stored_size(payload), size);
+    }
+    let a = file_a();
+    let buffer = [&a[..], &[0xaa; 20]].concat();
+    let five = Edit::Append { code: 6, payload: b"hello" };
+    let (whole, length) = edit(&buffer, 364, &five).unwrap();
+    let note = [&[16, 0, 0, 0, 6, 0, 0, 0][..], b"hello\0\0\0"].concat();
+    let mut header = a[..348].to_vec();
+    header[108..112].copy_from_slice(&[0, 0, 0xb8, 0x43]);
+    checks.equal("appending to A", whole.clone(), [&header[..], &[1, 0, 0, 0], &note, &a[352..], &[0xaa; 4]].concat());
+    checks.equal("its length", length, 380);
+    checks.equal("its voxel (2,1)", voxel(&whole[..380], 0, [2, 1, 0, 0, 0, 0, 0]), Ok((378, 2)));
+    checks.equal("exact fit", edit(&buffer[..380], 364, &five).map(|done| done.1), Ok(380));
+    checks.refused("one byte too long", edit(&buffer[..379], 364, &five), 22, 0);
+    checks.refused("stated length above the buffer", edit(&[], 1, &five), 24, 0);
+    let (back, length) = edit(&whole, 380, &Edit::Remove { number: 0 }).unwrap();
+    checks.equal("removing it", (back, length), ([&a[..], &[0; 16], &[0xaa; 4]].concat(), 364));
+    checks.refused("nothing to remove", edit(&a, 364, &Edit::Remove { number: 0 }), 18, 0);
+    checks.refused("18 before 19", edit(&a, 364, &Edit::Replace { number: 0, code: -1, payload: &[] }), 18, 0);
+    checks.refused("negative code", edit(&a, 364, &Edit::Append { code: -1, payload: &[] }), 19, 0);
+    let private = pair(BIG).file(&[&NO_EXTENSIONS, &[7]]);
+    checks.refused("private bytes", edit(&private, 353, &five), 20, 0);
+    let bare = pair(BIG).offset(0x8000_0000).file(&[&[0x55; 30]]);
+    let grown = pair(BIG).offset(0x8000_0000).file(&[&EXTENSIONS, &extension(BIG, 16, 6, b"hello\0\0\0"), &[0x55; 10]]);
+    checks.equal("pair of 348 bytes", edit(&bare, 348, &five), Ok((grown.clone(), 368)));
+    let emptied = pair(BIG).offset(0x8000_0000).file(&[&NO_EXTENSIONS, &[0; 16], &[0x55; 10]]);
+    checks.equal("its only extension removed", edit(&grown, 368, &Edit::Remove { number: 0 }), Ok((emptied, 352)));
+    let full = pair_with(&vec![extension(LITTLE, 16, 0, &[0; 8]); 64]);
+    checks.refused("a 65th", edit(&full, full.len() as u64, &five), 21, 0);
+    let mut list = [extension(LITTLE, 16, 0, &[1; 8]), extension(LITTLE, 32, 2, &[2; 24]), extension(LITTLE, 16, 4, &[3; 8])];
+    let three = pair_with(&list);
+    list[1] = extension(LITTLE, 16, 6, b"hello\0\0\0");
+    let replaced = [pair_with(&list), vec![0; 16]].concat();
+    let middle = Edit::Replace { number: 1, code: 6, payload: b"hello" };
+    checks.equal("the middle replaced", edit(&three, 416, &middle), Ok((replaced, 400)));
+}
+
+/// Laws on random files: a swap twice restores, an edit's result is accepted and keeps every voxel, removing the extension just
+/// appended restores the file, and the voxels' ranges fill the image.
+fn laws(checks: &mut Checks) {
+    let mut accepted = 0;
+    for number in 0..2000 {
+        let file = &cases::file(&mut cases::Random::new(7, number));
+        let Ok(known) = read(file) else {
+            continue;
+        };
+        if known.offset + known.image_bytes > 1 << 16 {
+            continue;
+        }
+        accepted += 1;
+        let image = vec![number as u8; (known.offset + known.image_bytes) as usize];
+        let (other, other_image) = swap(file, &image).unwrap();
+        let turned = read(&other).unwrap();
+        checks.holds(
+            "a swap keeps all but the order",
+            turned.order != known.order && Known { order: known.order, ..turned } == known,
+        );
+        checks.holds("a swap twice restores", swap(&other, &other_image) == Ok((file.clone(), image.clone())));
+        checks.holds("the voxels fill the image", voxels_fill(&known, file, &image));
+        let buffer = [file.clone(), vec![0; 64]].concat();
+        let Ok((whole, length)) = edit(&buffer, file.len() as u64, &Edit::Append { code: 4, payload: b"a note of 19 bytes" })
+        else {
+            continue;
+        };
+        let edited = &whole[..length as usize];
+        let moved = read(edited).unwrap();
+        checks.equal("one more extension", moved.spans.len(), known.spans.len() + 1);
+        let last: [u64; 7] = std::array::from_fn(|i| known.axis(i + 1) - 1);
+        let (before, after) = (voxel(file, image.len() as u64, last).unwrap(), voxel(edited, image.len() as u64, last).unwrap());
+        checks.equal("voxels move with vox_offset", after.0 - before.0, moved.offset - known.offset);
+        let (back, length) = edit(&whole, length, &Edit::Remove { number: known.spans.len() as u64 }).unwrap();
+        checks.holds("removing it restores the file", file.len() == 348 || back[..length as usize] == file[..]);
+    }
+    checks.holds("enough random files", accepted > 500);
+}
+
+fn voxels_fill(known: &Known, file: &[u8], image: &[u8]) -> bool {
+    let voxels = known.image_bytes / known.voxel_bytes();
+    (0..voxels).all(|number| {
+        let mut rest = number;
+        let index = std::array::from_fn(|i| {
+            let here = rest % known.axis(i + 1);
+            rest /= known.axis(i + 1);
+            here
+        });
+        voxel(file, image.len() as u64, index) == Ok((known.offset + number * known.voxel_bytes(), known.voxel_bytes()))
+    })
+}
+
+pub fn run() {
+    let mut checks = Checks::default();
+    for part in [file_a_numbers, offsets, images, headers, extensions, slices, positions, swaps, edits, laws] {
+        part(&mut checks);
+    }
+    println!("self-check: {} checks, {} failed", checks.done, checks.failed);
+    std::process::exit((checks.failed > 0) as i32);
+}
