@@ -72,14 +72,14 @@ module _ (f g : List ℕ) (xs : List (List ℕ)) (a : IsAccepted f) (r : Renewed
     rows-same : verdict (imageRows (readingOf g .header) (length image) index) ≡ verdict (imageRows (readingOf f .header) (length image) index)
     rows-same =
         let cut : imageCut (readingOf g .header .kind) (length image) (imageOf (shapeOfRecord (readingOf g .header)))
-            ≡ imageCut (readingOf f .header .kind) (length image) (imageOf (shapeOfRecord (readingOf f .header))) =
-            (λ i. imageCut (r .kind-same i) (length image) (record-image g (r .accepted) i))
-            ∙ cut-same (readingOf f .header .kind) (length image) (readingOf f .image) (readingOf g .image) pair-offset (r .bytes-same)
-            ∙ sym (ap (imageCut (readingOf f .header .kind) (length image)) (record-image f a)) in
+        ≡ imageCut (readingOf f .header .kind) (length image) (imageOf (shapeOfRecord (readingOf f .header))) =
+        (λ i. imageCut (r .kind-same i) (length image) (record-image g (r .accepted) i))
+        ∙ cut-same (readingOf f .header .kind) (length image) (readingOf f .image) (readingOf g .image) pair-offset (r .bytes-same)
+        ∙ sym (ap (imageCut (readingOf f .header .kind) (length image)) (record-image f a)) in
         λ i. verdict (
-            record { number = 16; test = cut i; place = 0 }
-            ∷ record { number = 17; test = not (within (lengths-same i) index); place = 0 }
-            ∷ [])
+        record { number = 16; test = cut i; place = 0 }
+        ∷ record { number = 17; test = not (within (lengths-same i) index); place = 0 }
+        ∷ [])
 
     abbrev behind : ℕ
     behind = voxelBytes (readingOf f .header) * rank (lengthsOf (readingOf f .header)) index

@@ -1,0 +1,100 @@
+-- 01-scope.md, "Numbers on each side": file A, and each answer as a list of the paper's numbers, so that all rows are one table.
+use Prim.Native.Nat.{ℕ, _+_}
+use mathlib.Core.List.{List, [], _∷_, _++_, reverse}
+use lib.IntN.{pos}
+use lib.ListN.{take, drop, replicate}
+use Rattle.field.specs.Numbers.{tabulate}
+use Rattle.refusal.specs.declared.Verdict.{Verdict}
+use Rattle.refusal.specs.declared.Verdict.the-variants.{Accepted, Refused}
+use Rattle.offset.specs.declared.Offset.{Offset}
+use Rattle.offset.specs.declared.Offset.the-variants.{Whole, NotWhole, TooLarge}
+use Rattle.slices.specs.Ranks.{rankIn}
+use Rattle.reader.specs.Reading.{readingOf}
+use Rattle.timing.specs.declared.Slice.{Slice}
+use Rattle.timing.specs.declared.Slice.the-variants as slice
+use Rattle.voxel.specs.declared.Located.{Located}
+use Rattle.voxel.specs.declared.Located.the-variants.{At, Unlocated}
+use Rattle.voxel.specs.Voxel.{locatedOf}
+use Rattle.edit.specs.declared.Change.the-variants.{Append}
+use Rattle.edit.specs.declared.Edited.{Edited}
+use Rattle.edit.specs.declared.Edited.the-variants.{Done, Denied}
+use Rattle.edit.specs.Outcome.{Outcome, outcomeOf, answerOf, bufferAfter}
+
+abbrev pub zeros : ℕ → List ℕ
+zeros n = replicate n 0
+
+-- "File A: little-endian single, dim[0] = 2, dim[1] = 3, dim[2] = 2, datatype 4, bitpix 16, vox_offset 352, all other fields but
+-- sizeof_hdr and magic zero, zero extender, 12 image bytes, 364 bytes."
+abbrev pub fileWith : List ℕ → List ℕ
+fileWith offset =
+    0x5C ∷ 0x01 ∷ zeros 38
+    ++ (2 ∷ 0 ∷ 3 ∷ 0 ∷ 2 ∷ 0 ∷ zeros 24
+    ++ (4 ∷ 0 ∷ 16 ∷ 0 ∷ zeros 34
+    ++ (offset
+    ++ (zeros 232
+    ++ (0x6E ∷ 0x2B ∷ 0x31 ∷ 0 ∷ zeros 16)))))
+
+-- vox_offset is the four bytes at 108: 43B00000 is 352
+abbrev pub fileA : List ℕ
+fileA = fileWith (0 ∷ 0 ∷ 0xB0 ∷ 0x43 ∷ [])
+
+-- an answer's numbers: 0 for success, or the refusal's number and place
+abbrev pub ofVerdict : Verdict → List ℕ
+ofVerdict Accepted = 0 ∷ []
+ofVerdict (Refused r) = r .number ∷ r .place ∷ []
+
+abbrev pub ofLocated : Located → List ℕ
+ofLocated (At e) = 0 ∷ e .place ∷ e .length ∷ []
+ofLocated (Unlocated r) = r .number ∷ r .place ∷ []
+
+abbrev pub ofEdited : Edited → List ℕ
+ofEdited (Done n) = 0 ∷ n ∷ []
+ofEdited (Denied r) = r .number ∷ r .place ∷ []
+
+-- a voxel of two indexes, of a single file
+abbrev pub at : List ℕ → ℕ → ℕ → List ℕ
+at file i j = ofLocated (locatedOf file [] (i ∷ j ∷ 0 ∷ 0 ∷ 0 ∷ 0 ∷ 0 ∷ []))
+
+abbrev pub reading : List ℕ → List ℕ
+reading file = ofVerdict (readingOf file .verdict)
+
+abbrev pub ofOffset : Offset → List ℕ
+ofOffset (Whole n) = 0 ∷ n ∷ []
+ofOffset NotWhole = 8 ∷ []
+ofOffset TooLarge = 9 ∷ []
+
+-- "Appending 5 bytes to A", in a buffer of 400 bytes
+abbrev pub buffer : List ℕ
+buffer = fileA ++ zeros 36
+
+abbrev pub note : Outcome
+note = outcomeOf buffer 364 Append (pos 6) (1 ∷ 2 ∷ 3 ∷ 4 ∷ 5 ∷ [])
+
+abbrev pub appended : List ℕ
+appended = take 380 (bufferAfter buffer 364 note)
+
+-- the length answered; the four bytes of vox_offset, from the most significant; voxel (2,1)
+abbrev pub appendRows : List (List ℕ)
+appendRows = ofEdited (answerOf note) ∷ reverse (take 4 (drop 108 appended)) ∷ at appended 2 1 ∷ []
+
+-- seven slices of one byte along the third axis, slice_duration 0.1, "start 1, end 5" and a code: document 004's setting
+abbrev pub slicesFile : ℕ → List ℕ
+slicesFile code =
+    0x5C ∷ 0x01 ∷ zeros 37
+    ++ (0x30 ∷ 3 ∷ 0 ∷ 1 ∷ 0 ∷ 1 ∷ 0 ∷ 7 ∷ 0 ∷ zeros 22
+    ++ (2 ∷ 0 ∷ 8 ∷ 0 ∷ 1 ∷ 0 ∷ zeros 32
+    ++ (0 ∷ 0 ∷ 0xB0 ∷ 0x43 ∷ zeros 8
+    ++ (5 ∷ 0 ∷ code ∷ zeros 9
+    ++ (0xCD ∷ 0xCC ∷ 0xCC ∷ 0x3D ∷ zeros 208
+    ++ (0x6E ∷ 0x2B ∷ 0x31 ∷ 0 ∷ zeros 11))))))
+
+-- a slice's answer: 0 unstated, 1 padding, 2 with the rank; or the refusal
+abbrev pub ofSlice : Slice → List ℕ
+ofSlice (slice.Refused r) = r .number ∷ r .place ∷ []
+ofSlice slice.Unstated = 0 ∷ []
+ofSlice slice.Padding = 1 ∷ []
+ofSlice (slice.Timed rank t) = 2 ∷ rank ∷ []
+
+-- the ranks of slices 1 to 5, with start 1 and end 5
+abbrev pub ranks : ℕ → List ℕ
+ranks code = tabulate (λ i. rankIn code 1 5 (1 + i)) 5
