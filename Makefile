@@ -6,7 +6,7 @@ SHELL := /bin/bash
 .PHONY: library check demo fuzz bench
 
 library:
-	@rt staticlib vestumbral | tail -n 1
+	@rt staticlib vestumbral 2>&1 | tail -n 1
 
 # rt ci proves every crate, tries the must-fail edits and runs the programs. It removes target/ first, so its output is kept
 # elsewhere until it ends. Then come the tests that stand outside it. Its own last line is held back and printed as the last of all.
@@ -19,7 +19,7 @@ check:
 	tail -n 1 target/ci.log | grep -Ex '[0-9]+ passed, 0 failed'
 
 demo: library
-	@rt check nifti_list | tail -n 1
+	@rt check nifti_list 2>&1 | tail -n 1
 	python3 tests/nifti.py >target/file_a.nii
 	echo "file A, $$(wc -c <target/file_a.nii) bytes:"
 	target/bin/nifti_list <target/file_a.nii
