@@ -1,11 +1,16 @@
 /*
  * Speed of the library beside memcpy, memmove and plain C, on the same input in the same run. Each time is the best of several
  * rounds, and in a round all of a row's ways are taken in turn. Every buffer is written before the first round. The table has the
- * time of one call and its ratio to that of each other way: above 1 the library is slower.
+ * time of one call, or of one voxel, and its ratio to that of each other way: above 1 the library is slower.
  *
  * Beside read and voxel stand a copy and a move of the bytes that reading looks at (header, extender, extensions) and the same
  * rules written plainly in C; beside swap a copy and a move of the image and a loop that turns its units in place; beside append
  * and remove a copy and a move of the bytes that slide, the move by the same distance, and a loop that moves them byte by byte.
+ *
+ * The rows of 1000 voxels time one call of the crate voxel_run, which locates the first 1000 of axis 1 and answers the farthest
+ * place, and have the time of one voxel. By record the call reads the file once, by file for each voxel. Beside both stand a copy
+ * and a move of each voxel's bytes, and a plain C loop that keeps the farthest place: by record over what was read before the
+ * timing, so that the compiler takes the tests of the other indexes, all 0, out of the loop; by file it reads for each voxel.
  */
 #define _POSIX_C_SOURCE 200809L
 #include "vestumbral.h"
@@ -18,6 +23,13 @@
 
 /* LARGE_ROUNDS is even, so that the swaps undo one another. */
 enum { SMALL_ROUNDS = 9, SMALL_CALLS = 20000, LARGE_ROUNDS = 8, IMAGE = 64 << 20, ROOM = IMAGE + (1 << 16) };
+
+/* The voxels that one call locates, and the calls of a round. */
+enum { VOXELS = 1000, VOXEL_CALLS = 200 };
+
+/* The crate voxel_run: the farthest place among the first `count` voxels of axis 1. */
+uint64_t voxel_run_by_record(const uint8_t *file, size_t file_len, uint64_t count);
+uint64_t voxel_run_by_file(const uint8_t *file, size_t file_len, uint64_t count);
 
 static uint8_t *work, *copy, *kept; /* ROOM bytes each */
 static volatile uint64_t sink;
@@ -40,7 +52,8 @@ typedef void way(void);
 
 enum { WAYS = 4 };
 
-static void row(const char *name, const char *input, way *const ways[WAYS], int rounds, int calls)
+/* A call of a way does `parts` of what the row gives the time of. */
+static void row(const char *name, const char *input, way *const ways[WAYS], int rounds, int calls, int parts)
 {
     double best[WAYS] = {INFINITY, INFINITY, INFINITY, INFINITY};
     for (int round = 0; round < rounds; round++)
@@ -50,10 +63,10 @@ static void row(const char *name, const char *input, way *const ways[WAYS], int 
             double start = now();
             for (int i = 0; i < calls; i++)
                 ways[w]();
-            double each = (now() - start) / calls;
+            double each = (now() - start) / calls / parts;
             best[w] = each < best[w] ? each : best[w];
         }
-    printf("%-8s %-26s %14.1f", name, input, best[0]);
+    printf("%-15s %-26s %14.1f", name, input, best[0]);
     for (int w = 1; w < WAYS; w++)
         ways[w] ? printf(" %9.2f", best[0] / best[w]) : printf(" %9s", "-");
     printf("\n");
@@ -192,17 +205,23 @@ static void read_plain(void)
 
 static void voxel_library(void) { sink = vestumbral_voxel(work, file_len, NULL, 0, sink % 3, 1, 2, 0, 0, 0, 0).place; }
 
+/* The place of a voxel of a file that was read before, plainly, and 0 where it is refused. */
+static uint64_t plain_place(const struct plain_file *file, const uint64_t index[3])
+{
+    uint64_t number = 0;
+    for (int i = 2; i >= 0; i--) {
+        if (file->refused || index[i] >= (uint64_t)file->dim[i + 1])
+            return 0;
+        number = index[i] + file->dim[i + 1] * number;
+    }
+    return file->offset + file->bytes * number;
+}
+
 static void voxel_plain(void)
 {
     static struct plain_file file;
     plain_read(work, file_len, &file);
-    uint64_t index[3] = {sink % 3, 1, 2}, number = 0;
-    for (int i = 2; i >= 0; i--) {
-        if (file.refused || index[i] >= (uint64_t)file.dim[i + 1])
-            return;
-        number = index[i] + file.dim[i + 1] * number;
-    }
-    sink = file.offset + file.bytes * number;
+    sink = plain_place(&file, (uint64_t[3]){sink % 3, 1, 2});
 }
 
 static void looked_at_copy(void)
@@ -215,6 +234,72 @@ static void looked_at_move(void)
 {
     memmove(copy + 16, copy, looked_at);
     sink = copy[looked_at - 1];
+}
+
+static struct plain_file read_before;
+
+static void record_library(void) { sink = voxel_run_by_record(work, file_len, VOXELS); }
+static void file_library(void) { sink = voxel_run_by_file(work, file_len, VOXELS); }
+
+static void record_plain(void)
+{
+    uint64_t most = 0;
+    for (uint64_t k = 0; k < VOXELS; k++) {
+        uint64_t place = plain_place(&read_before, (uint64_t[3]){k, 0, 0});
+        most = place > most ? place : most;
+    }
+    sink = most;
+}
+
+static void file_plain(void)
+{
+    static struct plain_file file;
+    uint64_t most = 0;
+    for (uint64_t k = 0; k < VOXELS; k++) {
+        plain_read(work, file_len, &file);
+        uint64_t place = plain_place(&file, (uint64_t[3]){k, 0, 0});
+        most = place > most ? place : most;
+    }
+    sink = most;
+}
+
+static void voxels_copy(void)
+{
+    for (size_t k = 0; k < VOXELS; k++) {
+        memcpy(copy + k * unit, work + looked_at + k * unit, unit);
+        sink = copy[k * unit];
+    }
+}
+
+static void voxels_move(void)
+{
+    for (size_t k = 0; k < VOXELS; k++) {
+        memmove(copy + 16 + k * unit, copy + k * unit, unit);
+        sink = copy[k * unit];
+    }
+}
+
+/* The same voxels of the same file by the record of one reading, and by the file. */
+static void voxel_rows(int extensions)
+{
+    static const int dims[4] = {3, 1024, 4, 4};
+    static way *const ways[2][WAYS] = {{record_library, voxels_copy, voxels_move, record_plain},
+                                       {file_library, voxels_copy, voxels_move, file_plain}};
+    char input[32];
+    snprintf(input, sizeof input, "%d voxels, %d extensions", VOXELS, extensions);
+    file_len = make(extensions, dims, 4, 16);
+    unit = 2;
+    looked_at = 352 + 32 * extensions;
+    memcpy(copy, work, ROOM);
+    plain_read(work, file_len, &read_before);
+    for (int by_file = 0; by_file < 2; by_file++) {
+        for (int w = 0; w < WAYS; w += WAYS - 1) { /* the library and plain C */
+            ways[by_file][w]();
+            if (sink != looked_at + unit * (VOXELS - 1))
+                fail("another place is answered for the farthest voxel");
+        }
+        row(by_file ? "voxel by file" : "voxel by record", input, ways[by_file], SMALL_ROUNDS, VOXEL_CALLS, VOXELS);
+    }
 }
 
 static void swap_library(void)
@@ -332,7 +417,7 @@ static void edit_rows(void)
         }
     }
     for (int removal = 0; removal < 2; removal++) {
-        printf("%-8s %-26s %14.1f", removal ? "remove" : "append", "32 bytes, 64 MiB slide", best[removal][0]);
+        printf("%-15s %-26s %14.1f", removal ? "remove" : "append", "32 bytes, 64 MiB slide", best[removal][0]);
         for (int w = 1; w < WAYS; w++)
             printf(" %9.2f", best[removal][0] / best[removal][w]);
         printf("\n");
@@ -346,9 +431,10 @@ int main(void)
     kept = malloc(ROOM);
     if (!work || !copy || !kept)
         fail("no memory");
-    printf("ns of one call, best of %d rounds (%d for 64 MiB), buffers written first\n", SMALL_ROUNDS, LARGE_ROUNDS);
+    printf("ns of one call (of one voxel where %d are located), best of %d rounds (%d for 64 MiB), buffers written first\n", VOXELS,
+           SMALL_ROUNDS, LARGE_ROUNDS);
     printf("a ratio is the library's time over the other's\n");
-    printf("%-8s %-26s %14s %9s %9s %9s\n", "call", "input", "ns", "/memcpy", "/memmove", "/plain C");
+    printf("%-15s %-26s %14s %9s %9s %9s\n", "call", "input", "ns", "/memcpy", "/memmove", "/plain C");
 
     static const int small[4] = {3, 4, 4, 4};
     static const int counts[3] = {0, 8, 64};
@@ -361,8 +447,10 @@ int main(void)
             way *const ways[WAYS] = {voxel ? voxel_library : read_library, looked_at_copy, looked_at_move,
                                      voxel ? voxel_plain : read_plain};
             snprintf(input, sizeof input, "%d extensions", counts[i]);
-            row(voxel ? "voxel" : "read", input, ways, SMALL_ROUNDS, SMALL_CALLS);
+            row(voxel ? "voxel by file" : "read", input, ways, SMALL_ROUNDS, SMALL_CALLS, 1);
         }
+    voxel_rows(0);
+    voxel_rows(64);
 
     static const int types[5][3] = {{1, 2, 8}, {2, 4, 16}, {4, 8, 32}, {8, 64, 64}, {16, 1536, 128}};
     for (int i = 0; i < 5; i++) {
@@ -374,7 +462,7 @@ int main(void)
         memcpy(copy, work, ROOM);
         way *const ways[WAYS] = {swap_library, image_copy, image_move, unit > 1 ? swap_plain : NULL};
         snprintf(input, sizeof input, "64 MiB, unit %d", types[i][0]);
-        row("swap", input, ways, LARGE_ROUNDS, 1);
+        row("swap", input, ways, LARGE_ROUNDS, 1, 1);
         if (memcmp(work, kept, ROOM) != 0)
             fail("an even number of swaps changed the file");
     }
