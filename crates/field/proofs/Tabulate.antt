@@ -5,7 +5,7 @@ use mathlib.Core.List.{List, [], _∷_, _++_, append-assoc, append-nil}
 use native.Mathlib.Omega.{arith}
 use native.Mathlib.Numerals.{add-one}
 use lib.ListN.{length, getD, take, drop, set, length-drop}
-use lib.Seq.{drop-cons, set-at, append-snoc, drop-length, ext-getD, length-take-le, getD-take, getD-drop}
+use lib.Seq.{drop-cons, set-at, append-snoc, drop-length, ext-getD, length-take-le, take-length, getD-take, getD-drop}
 use Rattle.field.specs.Numbers.{tabulate, bytesAt}
 
 module _ {ℓ} {A : Type ℓ} where
@@ -18,7 +18,7 @@ module _ {ℓ} {A : Type ℓ} where
   tabulate-more f zero = refl
   tabulate-more f (suc n) = ap (λ (l : List A). f 0 ∷ l) (tabulate-more (λ i. f (suc i)) n)
 
-  -- a turn of a loop that fills a list from the padded
+  -- a turn of a loop that fills a list from the front
   pub tabulate-fill : (f : ℕ → A) (z : A) (d : List A) (n : ℕ) → n < length d → set (tabulate f n ++ drop n d) n (f n) ≡ tabulate f (n + 1) ++ drop (n + 1) d
   tabulate-fill f z d n h =
       rw (add-one, drop-cons d n z)
@@ -51,3 +51,17 @@ bytesAt-part at w s h =
     (λ i below.
     let less : i < w = rw (length-tabulate (λ k. getD s (at + k) 0) w) at below in
     tabulate-get (λ k. getD s (at + k) 0) w i 0 less ∙ sym (getD-take w (drop at s) i 0 less ∙ getD-drop at s i 0))
+
+-- a list filled by a copy of such a part: `bytes::copy` leaves the part, and what it does not reach
+pub part-copied : (at m : ℕ) (s out out′ : List ℕ) → m ≡ length out → at + m ≤ length s
+    → out′ ≡ take (length (take m (drop at s))) (take m (drop at s)) ++ drop (length (take m (drop at s))) out → out′ ≡ bytesAt at (length out) s
+part-copied at m s out out′ all h e =
+    let room : m ≤ length (drop at s) = simp length-drop (omega arith) in
+    let whole : length (take m (drop at s)) ≡ length out = length-take-le m (drop at s) room ∙ all in
+    e
+    ∙ ap (λ (l : List ℕ). l ++ drop (length (take m (drop at s))) out) (take-length (take m (drop at s)))
+    ∙ ap (λ (n : ℕ). take m (drop at s) ++ drop n out) whole
+    ∙ ap (λ (l : List ℕ). take m (drop at s) ++ l) (drop-length out)
+    ∙ append-nil (take m (drop at s))
+    ∙ sym (bytesAt-part at m s h)
+    ∙ ap (λ (n : ℕ). bytesAt at n s) all

@@ -226,8 +226,20 @@ pub fn put_i16s(buf: &mut [u8], at: usize, order: Order, n: usize, src: &[i16])
     }
 }
 
-// Fills `out` with the bytes from a place; then the same with numbers.
+// Fills `out` with the bytes from a place, with zeros where the slice ends before; then the same with numbers.
 pub fn copy_out(s: &[u8], at: usize, out: &mut [u8])
+    requires { ⌜ at + length (now out) < 4294967296 ⌝ }
+    ensures { λ _. ⌜ now (out .exit) ≡ bytesAt at (length (now (out .entry))) (now (s .entry)) ⌝ }
+{
+    let end = at + out.len();
+    if end <= s.len() {
+        bytes::copy(&s[at..end], out);
+    } else {
+        pad_out(s, at, out);
+    }
+}
+
+fn pad_out(s: &[u8], at: usize, out: &mut [u8])
     requires { ⌜ at + length (now out) < 4294967296 ⌝ }
     ensures { λ _. ⌜ now (out .exit) ≡ bytesAt at (length (now (out .entry))) (now (s .entry)) ⌝ }
 {

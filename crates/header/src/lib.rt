@@ -269,22 +269,31 @@ fn read_rows(file: &[u8], order: Order) -> Rows
     }
 }
 
-// The record of a file's first 348 bytes, with what is known of it beside them. Past the end there are zeros, so that an empty
-// file's record is all zero.
-pub fn parse(file: &[u8], order: Order, kind: Kind, count: usize, spans: [Span; 64]) -> Header
-    ensures { λ r. ⌜ r ≡ headerOf order kind count spans (now (file .entry)) ⌝ }
+// All of a record.
+fn parse_front(front: &[u8], order: Order, kind: Kind, count: usize, spans: [Span; 64]) -> Header
+    ensures { λ r. ⌜ r ≡ headerOf order kind count spans (now (front .entry)) ⌝ }
 {
     Header {
         order,
         kind,
-        dim: dims(file, order),
+        dim: dims(front, order),
         count,
         spans,
-        key: read_key(file, order),
-        intent: read_intent(file, order),
-        scale: read_scale(file, order),
-        display: read_display(file, order),
-        quatern: read_quatern(file, order),
-        rows: read_rows(file, order),
+        key: read_key(front, order),
+        intent: read_intent(front, order),
+        scale: read_scale(front, order),
+        display: read_display(front, order),
+        quatern: read_quatern(front, order),
+        rows: read_rows(front, order),
     }
+}
+
+// The record of a file's first 348 bytes, with what is known of it beside them. Past the end there are zeros, so that an empty
+// file's record is all zero. The bytes are copied first: of an array the compiler knows that each field lies inside.
+pub fn parse(file: &[u8], order: Order, kind: Kind, count: usize, spans: [Span; 64]) -> Header
+    ensures { λ r. ⌜ r ≡ headerOf order kind count spans (now (file .entry)) ⌝ }
+{
+    let mut front = [0u8; 348];
+    field::copy_out(file, 0, &mut front);
+    parse_front(&front, order, kind, count, spans)
 }

@@ -1,62 +1,59 @@
--- `copy_out` meets its contract: at each turn the first i places hold the bytes, and the rest is as it was.
-use Prim.Native.Nat.{_+_, _-_, _≤_}
+-- `copy_out` meets its contract: where the slice has all the bytes, they are copied as one part of it.
+use Prim.Native.Nat.{_+_, _-_}
 use mathlib.Core.Path.{_≡_}
-use mathlib.Core.List.{_++_}
 use native.Mathlib.Omega.{arith}
 use borrow.Author.Needs.{needs}
-use lib.ListN.{length, getD, drop, length-set}
-use Rattle.field.specs.Numbers.{tabulate}
-use Rattle.field.proofs.Tabulate.{tabulate-turn, tabulate-done}
+use denote.Ref.{now}
+use lib.ListN.{length}
+use Rattle.field.proofs.Tabulate.{part-copied}
 use Rattle.field.proofs.copy_out.Statement.{statement}
 use Rattle.field.proofs.copy_out.Tie as tie
 
-abbrev Inv-loop : tie.InvT-loop
-Inv-loop s at out₀ i₀ out i = (i ≤ length out₀) × (length out ≡ length out₀) × (out ≡ tabulate (λ k. getD s (at + k) 0) i ++ drop i out₀)
+add-end : tie.Need-add-end
+add-end c = search needs
 
-abbrev μ-loop : tie.MeasureT-loop
-μ-loop s at out₀ i₀ out i = length out₀ - i
+sub-copy : tie.Need-sub-copy
+sub-copy c = search needs
 
-loop-holds : tie.Need-loop-holds Inv-loop μ-loop
-loop-holds c = search needs
+part-copy-start : tie.Need-part-copy-start
+part-copy-start c = search needs
 
-add-byte-at : tie.Need-add-byte-at Inv-loop μ-loop
-add-byte-at c = search needs
+part-copy-end : tie.Need-part-copy-end
+part-copy-end c = search needs
 
-byte-at-requires : tie.Need-byte-at-requires Inv-loop μ-loop
-byte-at-requires c κs = search needs
+copy-requires : tie.Need-copy-requires
+copy-requires c κs = search needs
 
-slice-write-out : tie.Need-slice-write-out Inv-loop μ-loop
-slice-write-out c = search needs
+pad-out-requires : tie.Need-pad-out-requires
+pad-out-requires c κs = search needs
 
-add-i : tie.Need-add-i Inv-loop μ-loop
-add-i c = search needs
-
-loop-less : tie.Need-loop-less Inv-loop μ-loop
-loop-less c = search needs
-
-loop-again : tie.Need-loop-again Inv-loop μ-loop
-loop-again c =
-    let inv = c .before .before .loop .inv in
-    (omega arith, simp length-set (inv .1), tabulate-turn _ 0 _ _ _ _ (omega arith) (inv .2) (c .byte-at .ensures))
-
-same-length : tie.Need-same-length Inv-loop μ-loop
+same-length : tie.Need-same-length
 same-length c = search needs
 
-returns : tie.Need-returns Inv-loop μ-loop
-returns c = let inv = c .before .loop .inv in tabulate-done _ _ _ (c .before .loop .i) (omega arith) (omega arith) (inv .2)
+returns : tie.Need-returns
+returns c =
+    let a = c .before .before .before .before .before .before .before .before .args in
+    let n = length (now (a .out)) in
+    let e : a .at + n - a .at ≡ n = omega arith in
+    part-copied (a .at) _ (now (a .s)) (now (a .out)) _ e (omega arith) (c .before .before .copy .ensures .1)
+
+same-length-2 : tie.Need-same-length-2
+same-length-2 c = search needs
+
+returns-2 : tie.Need-returns-2
+returns-2 c = search needs
 
 pub copy-out-spec : {M : Type 1} → statement M
 copy-out-spec =
     tie.close
     (tie.spec
-    Inv-loop
-    μ-loop
-    loop-holds
-    add-byte-at
-    byte-at-requires
-    slice-write-out
-    add-i
-    loop-less
-    loop-again
+    add-end
+    sub-copy
+    part-copy-start
+    part-copy-end
+    copy-requires
+    pad-out-requires
     same-length
-    returns)
+    returns
+    same-length-2
+    returns-2)
