@@ -1,0 +1,241 @@
+/*
+ * The test vectors of the source documents (source-audit.md, section 6), asked of the library through its C interface and printed,
+ * one line an answer. vectors.out has what the documents say. Three stand elsewhere: document 004's slice table and the row that
+ * shows the order of rounding in the program slice_table, and the record written back in the program header_copy.
+ */
+#include "vestumbral.h"
+
+#include <stdio.h>
+#include <string.h>
+
+enum { SINGLE, PAIR };
+
+static uint8_t file[4096];
+
+static void put16(size_t at, int value)
+{
+    file[at] = value & 255;
+    file[at + 1] = value >> 8 & 255;
+}
+
+static void put32(size_t at, uint32_t value)
+{
+    put16(at, value & 65535);
+    put16(at + 2, value >> 16);
+}
+
+static void put_float(size_t at, float value)
+{
+    uint32_t bits;
+    memcpy(&bits, &value, 4);
+    put32(at, bits);
+}
+
+static uint32_t get32(size_t at)
+{
+    return file[at] | file[at + 1] << 8 | file[at + 2] << 16 | (uint32_t)file[at + 3] << 24;
+}
+
+/* A little-endian header; dims are dim[0], dim[1] .. dim[dim[0]]. All else is zero. */
+static void header(int kind, const int *dims, int datatype, int bitpix, float offset)
+{
+    memset(file, 0, sizeof file);
+    put32(0, 348);
+    for (int i = 0; i <= dims[0]; i++)
+        put16(40 + 2 * i, dims[i]);
+    put16(70, datatype);
+    put16(72, bitpix);
+    put_float(108, offset);
+    memcpy(file + 344, kind == PAIR ? "ni1" : "n+1", 4);
+}
+
+#define DIMS(...) ((const int[]){__VA_ARGS__})
+
+static void show(const char *what, size_t length)
+{
+    vestumbral_file f = vestumbral_read(file, length);
+    printf("%s: ", what);
+    if (f.refusal) {
+        printf("refused %llu at %llu\n", (unsigned long long)f.refusal, (unsigned long long)f.place);
+        return;
+    }
+    printf("%s %s, dims", f.big_endian ? "big" : "little", f.pair ? "pair" : "single");
+    for (int i = 1; i <= f.dim[0]; i++)
+        printf(" %d", f.dim[i]);
+    printf(", type %d bits %d, data %llu %llu, extensions %u\n", f.datatype, f.bitpix, (unsigned long long)f.data_offset,
+           (unsigned long long)f.data_bytes, f.extensions);
+}
+
+/* Voxel places are asked of a pair, whose image file has to be as long as it says but whose bytes are not read. */
+static void voxel(const char *what, size_t image, uint64_t i, uint64_t j, uint64_t k, uint64_t t, uint64_t u)
+{
+    static uint8_t bytes[1 << 20];
+    vestumbral_reply r = vestumbral_voxel(file, 348, bytes, image, i, j, k, t, u, 0, 0);
+    printf("%s (%d,%d,%d,%d,%d): refusal %d, place %llu, length %llu\n", what, (int)i, (int)j, (int)k, (int)t, (int)u,
+           (int)r.refusal, (unsigned long long)r.place, (unsigned long long)r.length);
+}
+
+static void file_a(void)
+{
+    static const struct { int at, value; } bytes[] = {{0, 0x5C}, {1, 1}, {40, 2}, {42, 3}, {44, 2}, {70, 4}, {72, 0x10},
+                                                      {110, 0xB0}, {111, 0x43}, {344, 0x6E}, {345, 0x2B}, {346, 0x31}};
+    memset(file, 0, sizeof file);
+    for (size_t i = 0; i < sizeof bytes / sizeof *bytes; i++)
+        file[bytes[i].at] = bytes[i].value;
+}
+
+static void dims(void)
+{
+    static const struct { const char *name; int dims[6]; } examples[] = {
+        {"FMRI", {4, 64, 64, 20, 120}},      {"T1", {3, 256, 256, 128}},           {"EPI", {4, 64, 64, 1, 1200}},
+        {"3-vector", {5, 256, 256, 128, 1, 3}}, {"3x3 matrix", {5, 1, 1, 1, 1200, 9}},
+    };
+    static const int types[3][2] = {{2, 8}, {4, 16}, {16, 32}};
+    for (int i = 0; i < 5; i++)
+        for (int t = 0; t < 3; t++) {
+            header(PAIR, examples[i].dims, types[t][0], types[t][1], 0);
+            for (int axis = 1; axis < 8; axis++)
+                put_float(76 + 4 * axis, axis == 4 ? 0 : 1); /* pixdim[4] = 0.0, as the 3-vector example has it */
+            show(examples[i].name, 348);
+        }
+}
+
+static void places(void)
+{
+    header(PAIR, DIMS(5, 64, 64, 20, 1, 3), 16, 32, 0);
+    show("VECTOR", 348);
+    for (int c = 0; c < 3; c++)
+        voxel("VECTOR", 983040, 0, 0, 0, 0, c);
+    voxel("VECTOR", 983039, 0, 0, 0, 0, 0);
+    header(PAIR, DIMS(5, 128, 128, 1, 1, 2), 16, 32, 0);
+    show("TTEST", 348);
+    voxel("TTEST", 131072, 0, 0, 0, 0, 1);
+    header(PAIR, DIMS(3, 5, 4, 3), 512, 16, 352);
+    voxel("three dims", 472, 0, 0, 0, 0, 0);
+    voxel("three dims", 472, 1, 0, 0, 0, 0);
+    voxel("three dims", 472, 0, 1, 0, 0, 0);
+    voxel("three dims", 472, 0, 0, 1, 0, 0);
+    voxel("three dims", 472, 4, 3, 2, 0, 0);
+    voxel("three dims", 472, 4, 3, 3, 0, 0);
+}
+
+/* dim_info of frequency 1, phase 2, slice 3, and of a spiral: the slice axis is 3 in both. */
+static void slice_axis(void)
+{
+    static const int infos[2] = {1 | 2 << 2 | 3 << 4, 3 << 4};
+    for (int i = 0; i < 2; i++) {
+        header(PAIR, DIMS(3, 2, 2, 7), 4, 16, 0);
+        file[39] = infos[i];
+        file[122] = 1;
+        put16(74, 1);
+        put16(120, 5);
+        put_float(132, 0.1f);
+        printf("dim_info %02X:", infos[i]);
+        for (int s = 0; s < 8; s++) {
+            vestumbral_slice a = vestumbral_slice_at(file, 348, s);
+            printf(a.refusal ? " refused %d" : a.state == 2 ? " rank %d" : a.state ? " padding" : " unstated",
+                   a.refusal ? (int)a.refusal : (int)a.rank);
+        }
+        printf("\n");
+    }
+}
+
+static void offsets(void)
+{
+    static const uint32_t bits[] = {0x43B00000, 0x43B04000, 0x43AF8000, 0x4B800000, 0x4D000000, 0x4D000001, 0x80000000, 0x7F7FFFFF};
+    for (size_t i = 0; i < sizeof bits / sizeof *bits; i++)
+        for (int kind = SINGLE; kind <= PAIR; kind++) {
+            char what[32];
+            header(kind, DIMS(1, 1), 2, 8, 0);
+            put32(108, bits[i]);
+            snprintf(what, sizeof what, "offset %08X", bits[i]);
+            show(what, kind == PAIR ? 348 : 353);
+        }
+}
+
+/* Extensions of 32, 16 and 48 bytes, and one of each code; payloads are all zero. */
+static void extensions(void)
+{
+    static const int32_t sizes[3] = {32, 16, 48};
+    static const int32_t codes[] = {0, 2, 4, 6, 8, 10, 12, 2147483646, 1, 2147483647};
+    size_t at = 352;
+    header(PAIR, DIMS(1, 1), 2, 8, 0);
+    file[348] = 1;
+    for (size_t i = 0; i < sizeof codes / sizeof *codes; i++) {
+        int32_t size = i < 3 ? sizes[i] : 16;
+        put32(at, size);
+        put32(at + 4, codes[i]);
+        at += size;
+    }
+    show("extensions", at);
+    for (uint64_t i = 0; i <= sizeof codes / sizeof *codes; i++) {
+        vestumbral_extension x = vestumbral_extension_at(file, at, i);
+        printf("extension %d: refusal %d, start %d size %d code %d\n", (int)i, (int)x.refusal, (int)x.start, x.size, x.code);
+    }
+}
+
+static void image_limit(void)
+{
+    header(PAIR, DIMS(3, 16384, 16384, 4096), 2, 8, 0);
+    show("pair of 2^40 voxels", 348);
+    put16(70, 4);
+    put16(72, 16);
+    show("pair of 2^40 voxels", 348);
+}
+
+static void append(void)
+{
+    file_a();
+    vestumbral_reply r = vestumbral_append(file, sizeof file, 364, 6, (const uint8_t *)"hello", 5);
+    printf("append of 5 bytes to A: refusal %d, length %d, size %u, vox_offset %08X\n", (int)r.refusal, (int)r.length, get32(352),
+           get32(108));
+    show("A then", r.length);
+    vestumbral_reply v = vestumbral_voxel(file, r.length, NULL, 0, 2, 1, 0, 0, 0, 0, 0);
+    printf("A then, voxel (2,1): refusal %d, place %d, length %d\n", (int)v.refusal, (int)v.place, (int)v.length);
+}
+
+/* extents 16384 is turned round too, though no one uses it; xyzt_units stays. */
+static void swap(void)
+{
+    file_a();
+    put32(32, 16384);
+    file[123] = 2 | 8;
+    for (int turn = 0; turn < 3; turn++) {
+        if (turn)
+            vestumbral_swap(file, 364, NULL, 0);
+        printf("extents %02X %02X %02X %02X, xyzt_units %02X, magic %02X %02X %02X %02X\n", file[32], file[33], file[34], file[35],
+               file[123], file[344], file[345], file[346], file[347]);
+    }
+}
+
+/* srow is diag(1, -1, -1) with a whole shift. */
+static void position(void)
+{
+    header(PAIR, DIMS(3, 10, 10, 10), 4, 16, 0);
+    put16(254, 1);
+    for (int row = 0; row < 3; row++) {
+        put_float(280 + 20 * row, row ? -1 : 1);
+        put_float(292 + 16 * row, 100 * row - 90);
+    }
+    static const int at[3][3] = {{0, 0, 0}, {3, 4, 5}, {9, 9, 9}};
+    for (int i = 0; i < 3; i++) {
+        vestumbral_position p = vestumbral_position_of(file, 348, at[i][0], at[i][1], at[i][2]);
+        printf("position (%d,%d,%d): refusal %d, %g %g %g\n", at[i][0], at[i][1], at[i][2], (int)p.refusal, p.x, p.y, p.z);
+    }
+}
+
+int main(void)
+{
+    file_a();
+    show("A", 364);
+    dims();
+    places();
+    slice_axis();
+    offsets();
+    extensions();
+    image_limit();
+    append();
+    swap();
+    position();
+    return 0;
+}
