@@ -13,12 +13,11 @@ use Rattle.header.specs.declared.Kind.{Kind}
 use Rattle.header.specs.declared.Kind.the-variants.{Single, Pair}
 use Rattle.rules.specs.declared.Image.{Image}
 use Rattle.rules.specs.Rules.{imageOf}
-use Rattle.reader.specs.File.{orderOf, kindOf, shapeOf, layoutOf, regionEnd, judgement}
+use Rattle.reader.specs.File.{orderOf, kindOf, shapeOf, imageCut, holder, layoutOf, regionEnd, judgement}
 use Rattle.units.specs.Units.{turned}
 use Rattle.units.specs.Runs.{Run, run, turnRuns, spanOf, headerRuns}
 use Rattle.units.proofs.Runs.{length-turnRuns, runs-twice, runs-field, span-append}
-use Rattle.byteswap.specs.Swap.{unitIn, cutImage, unlessCut, regionRuns, fileRuns, imageFileRuns, swapList, turnedFile, turnedImage, swappedFile, swappedImage}
-use Rattle.byteswap.specs.Other.{holderOf}
+use Rattle.byteswap.specs.Swap.{unitIn, unlessCut, regionRuns, fileRuns, imageFileRuns, swapList, turnedFile, turnedImage, swappedFile, swappedImage}
 use Rattle.byteswap.proofs.Whole.{region-span, image-file-span}
 use Rattle.byteswap.proofs.Swapped.{swapped, room, kind-is, length-is, shape-is, unit-is, judged-is}
 
@@ -29,11 +28,11 @@ cut-by c (stopped r) xs e = let z : _≡_ {A = ℕ} 0 1 = cc in absurd (omega ar
 
 -- a swap that is not refused
 module _ (file image : List ℕ) (xs : List Span) (e : swapList file image ≡ listed xs) where
-  both-pass : (cutImage (kindOf file) (imageOf (shapeOf file)) (length image) ≡ false) × (judgement file ≡ listed xs)
+  both-pass : (imageCut (kindOf file) (length image) (imageOf (shapeOf file)) ≡ false) × (judgement file ≡ listed xs)
   unfolding swapList
-  both-pass = cut-by (cutImage (kindOf file) (imageOf (shapeOf file)) (length image)) (judgement file) xs e
+  both-pass = cut-by (imageCut (kindOf file) (length image) (imageOf (shapeOf file))) (judgement file) xs e
 
-  pub uncut : cutImage (kindOf file) (imageOf (shapeOf file)) (length image) ≡ false
+  pub uncut : imageCut (kindOf file) (length image) (imageOf (shapeOf file)) ≡ false
   uncut = both-pass .0
 
   pub judged : judgement file ≡ listed xs
@@ -62,7 +61,7 @@ module _ (file image : List ℕ) (xs : List Span) (e : swapList file image ≡ l
   pub listed-again : swapList file′ image′ ≡ listed xs
   unfolding swapList
   listed-again =
-      (λ i. unlessCut (cutImage (kind-is file xs judged i) (imageOf (shape-is file xs judged i)) (image-length i)) (judged-is file xs judged i))
+      (λ i. unlessCut (imageCut (kind-is file xs judged i) (image-length i) (imageOf (shape-is file xs judged i))) (judged-is file xs judged i))
       ∙ rw uncut
 
   -- the runs are the same, and turning them twice gives all back
@@ -96,8 +95,8 @@ pub voxel-turned : (kind : Kind) (image : Image) (unit m k : ℕ) (xs : List Spa
     → 348 ≤ regionEnd kind image (length file) → (0 < length xs → Fills firstPlace (regionEnd kind image (length file)) xs)
     → spanOf (fileRuns kind image unit (length file) xs) ≤ length file → spanOf (imageFileRuns kind image unit) ≤ length images
     → take (m * unit) (drop (image .offset + k * (m * unit))
-    (holderOf kind (turnRuns (fileRuns kind image unit (length file) xs) file) (turnRuns (imageFileRuns kind image unit) images)))
-    ≡ turned unit m (take (m * unit) (drop (image .offset + k * (m * unit)) (holderOf kind file images)))
+    (holder kind (turnRuns (fileRuns kind image unit (length file) xs) file) (turnRuns (imageFileRuns kind image unit) images)))
+    ≡ turned unit m (take (m * unit) (drop (image .offset + k * (m * unit)) (holder kind file images)))
 unfolding fileRuns imageFileRuns spanOf
 voxel-turned Single image unit m k xs file images u h long fills room room′ =
     let before : List Run = headerRuns ++ regionRuns (image .offset) xs in

@@ -18,11 +18,11 @@ use Rattle.extension.proofs.Listings.{Held, listing-accepted, listing-refused}
 use Rattle.header.specs.declared.Kind.the-variants.{Single, Pair}
 use Rattle.reader.specs.declared.Layout.{Layout}
 use Rattle.reader.specs.declared.Checked.the-variants.{Fits, Breaks}
-use Rattle.reader.specs.File.{layoutOf, checkedOf, cutShort, extensionsOf, judgement}
+use Rattle.reader.specs.File.{layoutOf, checkedOf, cutShort, imageCut, extensionsOf, judgement}
 use Rattle.reader.proofs.Checking.{judgement-fits, judgement-breaks, layout-is}
 use Rattle.units.specs.Units.{turnedAt}
 use Rattle.units.specs.Runs.{turnRuns, turnRunsAt, headerRuns}
-use Rattle.byteswap.specs.Swap.{unitIn, cutImage, unlessCut, extensionRuns, fileRuns, imageFileRuns, swapList, turnedFile, turnedImage, swapAnswer, swappedFile, swappedImage, Placed}
+use Rattle.byteswap.specs.Swap.{unitIn, unlessCut, extensionRuns, fileRuns, imageFileRuns, swapList, turnedFile, turnedImage, swapAnswer, swappedFile, swappedImage, Placed}
 use Rattle.byteswap.proofs.Passes.{Passes, Listed, region-in, judged-passes, judged-listed, list-fills, list-placed, list-few}
 use Rattle.byteswap.proofs.Whole.{single-turned, pair-turned, image-single, image-pair}
 
@@ -78,18 +78,18 @@ module _ (s : List ℕ) (l : Layout) (fits : checkedOf s ≡ Fits l) (x : Listin
   single-room k = let w : cutShort Single (length s) (l .image) ≡ false = rw k at (file-passes .whole) in ltb-false (length s) (l .image .offset + l .image .bytes) w
 
   module _ (image : List ℕ) where
-    pub swaps-cut : cutImage (l .kind) (l .image) (length image) ≡ true
+    pub swaps-cut : imageCut (l .kind) (length image) (l .image) ≡ true
         → (Refused (refusal 16 0) ≡ swapAnswer s image) × (s ≡ swappedFile s image) × (image ≡ swappedImage s image)
     unfolding swapList
-    swaps-cut c = swaps-stopped s image (refusal 16 0) ((λ i. unlessCut (cutImage (layout i .kind) (layout i .image) (length image)) (judged i)) ∙ rw c)
+    swaps-cut c = swaps-stopped s image (refusal 16 0) ((λ i. unlessCut (imageCut (layout i .kind) (length image) (layout i .image)) (judged i)) ∙ rw c)
 
-    module _ (c : cutImage (l .kind) (l .image) (length image) ≡ false) where
+    module _ (c : imageCut (l .kind) (length image) (l .image) ≡ false) where
       pub pair-room : l .kind ≡ Pair → l .image .offset + l .image .bytes ≤ length image
-      pair-room k = let w : cutImage Pair (l .image) (length image) ≡ false = rw k at c in ltb-false (length image) (l .image .offset + l .image .bytes) w
+      pair-room k = let w : imageCut Pair (length image) (l .image) ≡ false = rw k at c in ltb-false (length image) (l .image .offset + l .image .bytes) w
 
       lists : swapList s image ≡ listed spans
       unfolding swapList
-      lists = (λ i. unlessCut (cutImage (layout i .kind) (layout i .image) (length image)) (judged i)) ∙ rw c
+      lists = (λ i. unlessCut (imageCut (layout i .kind) (length image) (layout i .image)) (judged i)) ∙ rw c
 
       pub swaps-accepted : Accepted ≡ swapAnswer s image
       unfolding swapAnswer

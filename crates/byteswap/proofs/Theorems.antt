@@ -18,12 +18,12 @@ use Rattle.datatype.proofs.Sound.{known-sound}
 use Rattle.extension.specs.declared.Span.{Span}
 use Rattle.extension.specs.Walk.{Walked, listed, stopped}
 use Rattle.rules.specs.Rules.{imageOf}
-use Rattle.reader.specs.File.{orderOf, kindOf, shapeIn, shapeOf, layoutOf, judgement}
+use Rattle.reader.specs.File.{orderOf, kindOf, shapeIn, shapeOf, imageCut, holder, layoutOf, judgement}
 use Rattle.reader.specs.declared.Reading.{Reading}
 use Rattle.reader.specs.Reading.{readingBy, readingOf, IsAccepted}
 use Rattle.units.specs.Units.{turned}
-use Rattle.byteswap.specs.Swap.{unitOf, unitIn, cutImage, unlessCut, fileRuns, swapList, answerBy, swapAnswer, swappedFile, swappedImage}
-use Rattle.byteswap.specs.Other.{readInOther, holderOf}
+use Rattle.byteswap.specs.Swap.{unitOf, unitIn, unlessCut, fileRuns, swapList, answerBy, swapAnswer, swappedFile, swappedImage}
+use Rattle.byteswap.specs.Other.{readInOther}
 use Rattle.byteswap.proofs.Passes.{judged-passes, judged-listed, region-in, list-fills}
 use Rattle.byteswap.proofs.Whole.{image-file-span}
 use Rattle.byteswap.proofs.Answers.{swaps-stopped}
@@ -40,9 +40,9 @@ answer-by s c (stopped r) = refl
 
 -- the swap refuses what the reader refuses, and then rule 16
 pub swap-answer : (file image : List ℕ)
-    → swapAnswer file image ≡ then (readingOf file .verdict) (verdict (row 16 (cutImage (kindOf file) (imageOf (shapeOf file)) (length image)) 0 ∷ []))
+    → swapAnswer file image ≡ then (readingOf file .verdict) (verdict (row 16 (imageCut (kindOf file) (length image) (imageOf (shapeOf file))) 0 ∷ []))
 unfolding swapAnswer swapList readingOf
-swap-answer file image = answer-by file (cutImage (kindOf file) (imageOf (shapeOf file)) (length image)) (judgement file)
+swap-answer file image = answer-by file (imageCut (kindOf file) (length image) (imageOf (shapeOf file))) (judgement file)
 
 -- ---- Swapping again
 
@@ -126,8 +126,8 @@ module _ (file image : List ℕ) (a : swapAnswer file image ≡ Accepted) where
         rw unit-is (omega (arith, div-add-mod' (t .bytes) (t .unit), s .divides))
 
     pub swap-voxel : (k : ℕ) → k * t .bytes + t .bytes ≤ imageOf (shapeOf file) .bytes
-        → take (t .bytes) (drop (imageOf (shapeOf file) .offset + k * t .bytes) (holderOf (kindOf file) (swappedFile file image) (swappedImage file image)))
-        ≡ turned (t .unit) (t .bytes / t .unit) (take (t .bytes) (drop (imageOf (shapeOf file) .offset + k * t .bytes) (holderOf (kindOf file) file image)))
+        → take (t .bytes) (drop (imageOf (shapeOf file) .offset + k * t .bytes) (holder (kindOf file) (swappedFile file image) (swappedImage file image)))
+        ≡ turned (t .unit) (t .bytes / t .unit) (take (t .bytes) (drop (imageOf (shapeOf file) .offset + k * t .bytes) (holder (kindOf file) file image)))
     unfolding fileRuns
     swap-voxel k h =
         let xs = swaps .0 in
@@ -140,6 +140,6 @@ module _ (file image : List ℕ) (a : swapAnswer file image ≡ Accepted) where
         let v =
         voxel-turned (kindOf file) im u (t .bytes / t .unit) k xs file image (rw unit-is (s .unit-some)) (rw units-of h) (region-in file (layoutOf file) p .0)
         (list-fills p (judged-listed file xs j)) (room file xs j) (image-file-span (kindOf file) im u (length image) (uncut file image xs e)) in
-        (λ i. take (t .bytes) (drop (im .offset + k * t .bytes) (holderOf (kindOf file) (file-turned file image xs e i) (image-turned file image xs e i))))
+        (λ i. take (t .bytes) (drop (im .offset + k * t .bytes) (holder (kindOf file) (file-turned file image xs e i) (image-turned file image xs e i))))
         ∙ rw units-of at v
-        ∙ (λ i. turned (unit-is i) (t .bytes / t .unit) (take (t .bytes) (drop (im .offset + k * t .bytes) (holderOf (kindOf file) file image))))
+        ∙ (λ i. turned (unit-is i) (t .bytes / t .unit) (take (t .bytes) (drop (im .offset + k * t .bytes) (holder (kindOf file) file image))))

@@ -13,12 +13,12 @@ use Rattle.extension.specs.Fills.{Fills}
 use Rattle.header.specs.declared.Kind.{Kind}
 use Rattle.header.specs.declared.Kind.the-variants.{Single, Pair}
 use Rattle.rules.specs.declared.Image.{Image}
-use Rattle.reader.specs.File.{cutShort, regionEnd}
+use Rattle.reader.specs.File.{cutShort, imageCut, regionEnd}
 use Rattle.units.specs.Units.{turnedAt}
 use Rattle.units.specs.Runs.{Run, run, turnRuns, turnRunsAt, spanOf, headerRuns}
 use Rattle.units.proofs.Runs.{span-append, header-span}
 use Rattle.units.proofs.Chain.{Chain, chain-runs, chain-next, chain-stay, chain-done}
-use Rattle.byteswap.specs.Swap.{extensionRuns, regionRuns, imageRuns, ownImage, fileRuns, imageFileRuns, cutImage}
+use Rattle.byteswap.specs.Swap.{extensionRuns, regionRuns, imageRuns, ownImage, fileRuns, imageFileRuns}
 use Rattle.byteswap.proofs.Turning.{fills-span}
 use borrow.Author.Tests.{ltb-false}
 
@@ -93,7 +93,7 @@ module _ (kind : Kind) (image : Image) (unit : ℕ) (s : List ℕ) (xs : List Sp
       chain-done (length s) l₂ c
 
 -- a pair's image file
-pub image-file-span : (kind : Kind) (image : Image) (unit len : ℕ) → cutImage kind image len ≡ false → spanOf (imageFileRuns kind image unit) ≤ len
+pub image-file-span : (kind : Kind) (image : Image) (unit len : ℕ) → imageCut kind len image ≡ false → spanOf (imageFileRuns kind image unit) ≤ len
 unfolding imageFileRuns spanOf
 image-file-span Single image unit len c = omega arith
 image-file-span Pair image unit len c = omega (arith, div-mul-le-self (image .bytes) unit, ltb-false len (image .offset + image .bytes) c)
@@ -103,7 +103,7 @@ module _ (kind : Kind) (image : Image) (unit : ℕ) (i : List ℕ) where
   unfolding imageFileRuns turnRuns
   image-single k = rw k
 
-  pub image-pair : (i′ : List ℕ) → kind ≡ Pair → cutImage kind image (length i) ≡ false → i′ ≡ turnedAt unit (image .offset) (image .bytes / unit) i
+  pub image-pair : (i′ : List ℕ) → kind ≡ Pair → imageCut kind (length i) image ≡ false → i′ ≡ turnedAt unit (image .offset) (image .bytes / unit) i
       → i′ ≡ turnRuns (imageFileRuns kind image unit) i
   unfolding imageFileRuns turnRunsAt
   image-pair i′ k c e =

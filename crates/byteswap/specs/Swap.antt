@@ -2,10 +2,9 @@
 -- field, unused numbers included, each extension's size and code, and each swap unit of the image. All else stays: text, private
 -- bytes, payloads, an image file's front, bytes after the image." So a file is one list of runs (crate units); a run of width 1 stays,
 -- and so does what follows the last run.
-use Prim.Native.Nat.{ℕ, _+_, _-_, _/_, _≤_, _<_}
-use mathlib.Core.Bool.{Bool, false, cond}
+use Prim.Native.Nat.{ℕ, _-_, _/_, _≤_, _<_}
+use mathlib.Core.Bool.{Bool, cond}
 use mathlib.Core.List.{List, [], _∷_, _++_}
-use lib.Dec.{ltb}
 use lib.IntN.{natAbs}
 use lib.ListN.{length}
 use Rattle.field.specs.declared.Order.{Order}
@@ -23,7 +22,7 @@ use Rattle.header.specs.declared.Kind.{Kind}
 use Rattle.header.specs.declared.Kind.the-variants.{Single, Pair}
 use Rattle.rules.specs.declared.Image.{Image}
 use Rattle.reader.specs.declared.Layout.{Layout}
-use Rattle.reader.specs.File.{layoutOf, regionEnd, judgement}
+use Rattle.reader.specs.File.{imageCut, layoutOf, regionEnd, judgement}
 use Rattle.units.specs.Runs.{Run, run, turnRuns, headerRuns}
 
 -- the swap unit of a datatype; one that the table lacks is refused before anything is turned (rule 6)
@@ -68,18 +67,13 @@ imageFileRuns Pair image unit = run 1 (image .offset) ∷ imageRuns image unit
 
 -- ---- What swapping answers, and what it leaves
 
--- rule 16: a pair's image file is shorter than its voxel offset and image bytes
-abbrev pub cutImage : Kind → Image → ℕ → Bool
-cutImage Single image len = false
-cutImage Pair image len = ltb len (image .offset + image .bytes)
-
 abbrev pub unlessCut : Bool → Walked → Walked
 unlessCut cut (listed xs) = cond cut (stopped (refusal 16 0)) (listed xs)
 unlessCut cut (stopped r) = stopped r
 
 -- the extensions of a file that is to be swapped, where none of 1 to 16 holds; else the first refusal
 unfoldable pub swapList : List ℕ → List ℕ → Walked
-swapList file image = unlessCut (cutImage (layoutOf file .kind) (layoutOf file .image) (length image)) (judgement file)
+swapList file image = unlessCut (imageCut (layoutOf file .kind) (length image) (layoutOf file .image)) (judgement file)
 
 abbrev pub answerBy : Walked → Verdict
 answerBy (listed xs) = Accepted

@@ -3,8 +3,6 @@
 ghost use mathlib.Core.Path.{_≡_};
 ghost use Prim.Native.Nat.{_+_, _/_, _≤_};
 ghost use lib.ListN.{length, take};
-ghost use Rattle.offset.specs.Offset.{offsetLimit};
-ghost use Rattle.grid.specs.Axes.{imageLimit};
 ghost use Rattle.refusal.specs.declared.Verdict.the-variants.{Accepted};
 ghost use Rattle.extension.specs.Listing.{listingOf};
 ghost use Rattle.extension.specs.Walk.{firstPlace};
@@ -12,7 +10,7 @@ ghost use Rattle.reader.specs.declared.Checked.the-variants.{Fits};
 ghost use Rattle.reader.specs.File.{checkedOf, extensionsOf};
 ghost use Rattle.units.specs.Units.{turnedAt};
 ghost use Rattle.units.specs.Runs.{turnRunsAt};
-ghost use Rattle.byteswap.specs.Swap.{unitIn, cutImage, extensionRuns, Placed, swapAnswer, swappedFile, swappedImage};
+ghost use Rattle.byteswap.specs.Swap.{unitIn, extensionRuns, Placed, swapAnswer, swappedFile, swappedImage};
 use datatype::Datatype;
 use extension::Listing;
 use extension::Span;
@@ -32,17 +30,6 @@ fn unit_in(file: &[u8], order: Order) -> usize
     match datatype {
         Datatype::Known(format) => format.unit,
         Datatype::Unknown => 1,
-    }
-}
-
-// Rule 16, of an image file's length.
-fn cut_image(kind: Kind, image: Image, len: usize) -> bool
-    requires { ⌜ (image .offset ≤ offsetLimit) × (image .bytes ≤ imageLimit) ⌝ }
-    ensures { λ r. ⌜ r ≡ cutImage kind image len ⌝ }
-{
-    match kind {
-        Kind::Single => false,
-        Kind::Pair => (len as u64) < image.offset + image.bytes,
     }
 }
 
@@ -81,7 +68,7 @@ fn swap_listed(file: &mut [u8], image: &mut [u8], layout: Layout, listing: Listi
     let kind = layout.kind;
     let place = layout.image;
     let spans = listing.spans;
-    if cut_image(kind, place, image.len()) {
+    if reader::image_cut(kind, image.len(), place) {
         return Verdict::Refused(Refusal {
             number: 16,
             place: 0,

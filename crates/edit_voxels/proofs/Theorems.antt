@@ -20,10 +20,11 @@ use Rattle.header.specs.declared.Kind.{Kind}
 use Rattle.header.specs.declared.Kind.the-variants.{Single, Pair}
 use Rattle.rules.specs.declared.Image.{Image}
 use Rattle.rules.specs.Rules.{axisCount, imageOf, shapeOfRecord}
+use Rattle.reader.specs.File.{imageCut, holder}
 use Rattle.reader.specs.Reading.{readingOf, IsAccepted}
 use Rattle.voxel.specs.declared.Located.{Located}
 use Rattle.voxel.specs.declared.Located.the-variants.{At, Unlocated}
-use Rattle.voxel.specs.Voxel.{imageCut, lengthsOf, voxelBytes, imageRows, extentOf, locatedAfter, locatedOf, holder, partOf, voxelOf}
+use Rattle.voxel.specs.Voxel.{lengthsOf, voxelBytes, imageRows, extentOf, locatedAfter, locatedOf, partOf, voxelOf}
 use Rattle.voxel.proofs.Accepted.{record-image}
 use Rattle.voxel.proofs.Theorems.{accepted-located}
 use Rattle.edit.specs.declared.Change.{Change}

@@ -1,5 +1,6 @@
 -- What reading judges of a file's bytes: the refusal table, rules 1 to 12, in its order, and then the extension list with
--- rules 13 to 15 (01-scope.md, "Refusal numbers", "The header rules", "Extensions").
+-- rules 13 to 15 (01-scope.md, "Refusal numbers", "The header rules", "Extensions"). With rule 16, which the calls that ask for the
+-- image judge after them.
 use Prim.Native.Nat.{ℕ, _+_}
 use mathlib.Core.Bool.{Bool, true, false, not, cond, _&&_, _||_}
 use mathlib.Core.List.{List, [], _∷_, _++_}
@@ -83,6 +84,16 @@ shapeOf s = shapeIn (orderOf s) (kindOf s) s
 abbrev pub cutShort : Kind → ℕ → Image → Bool
 cutShort Single len image = ltb len (image .offset + image .bytes)
 cutShort Pair len image = false
+
+-- rule 16: a pair's image file is shorter than that
+abbrev pub imageCut : Kind → ℕ → Image → Bool
+imageCut Single len image = false
+imageCut Pair len image = ltb len (image .offset + image .bytes)
+
+-- "part of the file or of the image file, whichever holds them: the first for a single file, the second for a pair"
+abbrev pub holder : Kind → List ℕ → List ℕ → List ℕ
+holder Single file image = file
+holder Pair file image = image
 
 -- the four bytes at 348. "A pair's header file of 348 bytes has extender 0,0,0,0": past the end there are zeros.
 abbrev pub extenderOf : List ℕ → List ℕ

@@ -8,7 +8,7 @@ ghost use Rattle.refusal.specs.Table.{verdict};
 ghost use Rattle.extension.specs.Listing.{listingOf};
 ghost use Rattle.offset.specs.Offset.{offsetLimit};
 ghost use Rattle.grid.specs.Axes.{imageLimit};
-ghost use Rattle.reader.specs.File.{sameBytes, holdsIn, orderOf, hasMagic, startOf, shapeIn, cutShort, cutExtender, hasNone, hasExtensions, endRows, checkedOf, regionEnd, extensionsOf};
+ghost use Rattle.reader.specs.File.{sameBytes, holdsIn, orderOf, hasMagic, startOf, shapeIn, cutShort, imageCut, cutExtender, hasNone, hasExtensions, endRows, checkedOf, regionEnd, extensionsOf};
 ghost use Rattle.reader.specs.Reading.{refusedWith, readingOf};
 use extension::Listing;
 use field::Order;
@@ -135,6 +135,17 @@ fn cut_short(kind: Kind, len: usize, image: Image) -> bool
     match kind {
         Kind::Single => (len as u64) < image.offset + image.bytes,
         Kind::Pair => false,
+    }
+}
+
+// Rule 16. `len` is the length of a pair's image file.
+pub fn image_cut(kind: Kind, len: usize, image: Image) -> bool
+    requires { ⌜ (image .offset ≤ offsetLimit) × (image .bytes ≤ imageLimit) ⌝ }
+    ensures { λ r. ⌜ r ≡ imageCut kind len image ⌝ }
+{
+    match kind {
+        Kind::Single => false,
+        Kind::Pair => (len as u64) < image.offset + image.bytes,
     }
 }
 

@@ -15,10 +15,11 @@ use Rattle.header.specs.declared.Header.{Header}
 use Rattle.rules.specs.declared.Image.{Image}
 use Rattle.rules.specs.declared.Judged.the-variants.{Passed, Failed}
 use Rattle.rules.specs.Rules.{imageOf, shapeOfRecord, recordRows, recordJudged}
+use Rattle.reader.specs.File.{imageCut}
 use Rattle.voxel.specs.declared.Extent.{Extent}
 use Rattle.voxel.specs.declared.Located.{Located}
 use Rattle.voxel.specs.declared.Located.the-variants.{At, Unlocated}
-use Rattle.voxel.specs.Voxel.{imageCut, lengthsOf, voxelBytes, imageRows, voxelRows, extentOf, locatedAfter, locatedIn}
+use Rattle.voxel.specs.Voxel.{lengthsOf, voxelBytes, imageRows, voxelRows, extentOf, locatedAfter, locatedIn}
 use Rattle.rules.proofs.Passed.{record-passed-is, record-failed-is}
 
 module _ (h : Header) (len : ℕ) (index : List ℕ) where

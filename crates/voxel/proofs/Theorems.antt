@@ -23,12 +23,12 @@ use Rattle.header.specs.declared.Kind.the-variants.{Single, Pair}
 use Rattle.rules.specs.declared.Shape.{Shape}
 use Rattle.rules.specs.declared.Image.{Image}
 use Rattle.rules.specs.Rules.{axisCount, imageOf, shapeOfRecord, recordRows}
-use Rattle.reader.specs.File.{orderOf, shapeIn, cutShort}
+use Rattle.reader.specs.File.{orderOf, shapeIn, cutShort, imageCut, holder}
 use Rattle.reader.specs.Reading.{readingOf, IsAccepted}
 use Rattle.voxel.specs.declared.Extent.{Extent}
 use Rattle.voxel.specs.declared.Located.{Located}
 use Rattle.voxel.specs.declared.Located.the-variants.{At, Unlocated}
-use Rattle.voxel.specs.Voxel.{imageCut, lengthsOf, voxelBytes, imageRows, extentOf, locatedAfter, locatedIn, locatedOf, holder, partOf, voxelOf}
+use Rattle.voxel.specs.Voxel.{lengthsOf, voxelBytes, imageRows, extentOf, locatedAfter, locatedIn, locatedOf, partOf, voxelOf}
 use Rattle.voxel.proofs.Sized.{record-sized}
 use Rattle.voxel.proofs.Locating.{Found, found, after-at, passed-located}
 use Rattle.reader.proofs.Accepted.{accepted-shape, accepted-record}

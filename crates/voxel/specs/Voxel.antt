@@ -1,8 +1,7 @@
 -- Where a voxel's bytes are, and the bytes themselves (01-scope.md, "Voxels and byte order", rules 16 and 17).
 use Prim.Native.Nat.{ℕ, _+_, _*_, _/_}
-use mathlib.Core.Bool.{Bool, false, not}
+use mathlib.Core.Bool.{not}
 use mathlib.Core.List.{List, [], _∷_, _++_}
-use lib.Dec.{ltb}
 use lib.ListN.{length, take, drop}
 use Rattle.refusal.specs.declared.Verdict.{Verdict}
 use Rattle.refusal.specs.declared.Verdict.the-variants.{Accepted, Refused}
@@ -11,19 +10,12 @@ use Rattle.offset.specs.Offset.{wholeOf}
 use Rattle.grid.specs.Grid.{within, rank}
 use Rattle.grid.specs.Axes.{extent, sevenAxes}
 use Rattle.header.specs.declared.Header.{Header}
-use Rattle.header.specs.declared.Kind.{Kind}
-use Rattle.header.specs.declared.Kind.the-variants.{Single, Pair}
-use Rattle.rules.specs.declared.Image.{Image}
 use Rattle.rules.specs.Rules.{axisCount, imageOf, shapeOfRecord, recordRows}
+use Rattle.reader.specs.File.{imageCut, holder}
 use Rattle.reader.specs.Reading.{readingOf}
 use Rattle.voxel.specs.declared.Extent.{Extent}
 use Rattle.voxel.specs.declared.Located.{Located}
 use Rattle.voxel.specs.declared.Located.the-variants.{At, Unlocated}
-
--- rule 16: a pair's image file is shorter than its voxel offset and image bytes
-abbrev pub imageCut : Kind → ℕ → Image → Bool
-imageCut Single len image = false
-imageCut Pair len image = ltb len (image .offset + image .bytes)
 
 -- "Seven indexes; those after dim[0] must be 0": the seven lengths, 1 past dim[0]
 abbrev pub lengthsOf : Header → List ℕ
@@ -64,11 +56,6 @@ locatedIn h len index = locatedAfter (verdict (voxelRows h len index)) (At (exte
 -- and of files: 1..15 first
 unfoldable pub locatedOf : List ℕ → List ℕ → List ℕ → Located
 locatedOf file image index = locatedAfter (readingOf file .verdict) (locatedIn (readingOf file .header) (length image) index)
-
--- "part of the file or of the image file, whichever holds them: the first for a single file, the second for a pair"
-abbrev pub holder : Kind → List ℕ → List ℕ → List ℕ
-holder Single file image = file
-holder Pair file image = image
 
 abbrev pub partOf : Located → List ℕ → List ℕ
 partOf (At e) l = take (e .length) (drop (e .place) l)

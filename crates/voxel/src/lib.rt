@@ -4,10 +4,10 @@ ghost use mathlib.Core.Path.{_≡_};
 ghost use mathlib.Core.List.{[], _∷_};
 ghost use Prim.Native.Nat.{_+_, _/_, _≤_};
 ghost use lib.ListN.{length, take, drop};
-ghost use Rattle.offset.specs.Offset.{offsetLimit};
-ghost use Rattle.grid.specs.Axes.{extent, imageLimit};
+ghost use Rattle.grid.specs.Axes.{extent};
 ghost use Rattle.rules.specs.Rules.{recordJudged};
-ghost use Rattle.voxel.specs.Voxel.{imageCut, locatedIn, locatedAfter, locatedOf, holder, voxelOf};
+ghost use Rattle.reader.specs.File.{holder};
+ghost use Rattle.voxel.specs.Voxel.{locatedIn, locatedAfter, locatedOf, voxelOf};
 use header::Header;
 use header::Kind;
 use reader::Reading;
@@ -33,17 +33,6 @@ fn unlocated(number: u64, place: usize) -> Located
     Located::Unlocated(Refusal { number, place })
 }
 
-// Rule 16. `len` is the length of a pair's image file.
-fn image_cut(kind: Kind, len: usize, image: Image) -> bool
-    requires { ⌜ (image .offset ≤ offsetLimit) × (image .bytes ≤ imageLimit) ⌝ }
-    ensures { λ r. ⌜ r ≡ imageCut kind len image ⌝ }
-{
-    match kind {
-        Kind::Single => false,
-        Kind::Pair => (len as u64) < image.offset + image.bytes,
-    }
-}
-
 // The bytes of a voxel, as bitpix states them.
 fn voxel_bytes(bitpix: i16) -> u64
     ensures { λ r. ⌜ r ≡ extent bitpix / 8 ⌝ }
@@ -57,7 +46,7 @@ fn locate_at(header: Header, image: Image, len: usize, index: [u64; 7]) -> Locat
     ensures { λ r. ⌜ r ≡ locatedIn header len index ⌝ }
 {
     let kind = header.kind;
-    if image_cut(kind, len, image) {
+    if reader::image_cut(kind, len, image) {
         return unlocated(16, 0);
     }
     let dim = header.dim;
@@ -174,11 +163,11 @@ pub fn voxel<'a>(
         Located::Unlocated(_) => &file[0..0],
         Located::At(extent) => {
             let header = reading.header;
-            let kind = header.kind;
+            let file_kind = header.kind;
             part(
                 file,
                 image,
-                kind,
+                file_kind,
                 extent.place as usize,
                 extent.length as usize,
             )

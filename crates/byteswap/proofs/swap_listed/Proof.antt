@@ -11,8 +11,8 @@ use borrow.Author.Needs.{needs}
 use Rattle.byteswap.proofs.swap_listed.Statement.{statement}
 use Rattle.byteswap.proofs.swap_listed.Tie as tie
 
-cut-image-requires : tie.Need-cut-image-requires
-cut-image-requires c κs =
+image-cut-requires : tie.Need-image-cut-requires
+image-cut-requires c κs =
     let S = c .before .before .before .before in
     let a = S .args in
     file-passes (a .file .now) (a .layout) (S .pre .0) (a .listing) (S .pre .1) (S .pre .2) .bounds
@@ -21,7 +21,7 @@ returns : tie.Need-returns
 returns c =
     let S = c .before .before .before .before .before .before in
     let a = S .args in
-    swaps-cut (a .file .now) (a .layout) (S .pre .0) (a .listing) (S .pre .1) (S .pre .2) (a .image .now) (sym (c .before .cut-image .ensures) ∙ c .if1 .taken)
+    swaps-cut (a .file .now) (a .layout) (S .pre .0) (a .listing) (S .pre .1) (S .pre .2) (a .image .now) (sym (c .before .image-cut .ensures) ∙ c .if1 .taken)
 
 unit-in-requires : tie.Need-unit-in-requires
 unit-in-requires c κs = search needs
@@ -58,7 +58,7 @@ turn-image-requires-2 c κs =
     let S = c .before .before .before .before .before .before .before .before .before .before .before .before .before .before .before .before .before .before .before in
     let a = S .args in
     let some = unit-some (a .file .now) (a .layout) (file-passes (a .file .now) (a .layout) (S .pre .0) (a .listing) (S .pre .1) (S .pre .2)) in
-    (rw (c .before .before .before .before .before .before .before .before .before .before .before .unit-in .ensures) some, pair-room (a .file .now) (a .layout) (S .pre .0) (a .listing) (S .pre .1) (S .pre .2) (a .image .now) (sym (c .before .before .before .before .before .before .before .before .before .before .before .before .before .before .cut-image .ensures) ∙ c .before .before .before .before .before .before .before .before .before .before .before .before .before .if1 .left) (c .before .enum-told2 .given .1))
+    (rw (c .before .before .before .before .before .before .before .before .before .before .before .unit-in .ensures) some, pair-room (a .file .now) (a .layout) (S .pre .0) (a .listing) (S .pre .1) (S .pre .2) (a .image .now) (sym (c .before .before .before .before .before .before .before .before .before .before .before .before .before .before .image-cut .ensures) ∙ c .before .before .before .before .before .before .before .before .before .before .before .before .before .if1 .left) (c .before .enum-told2 .given .1))
 
 same-length : tie.Need-same-length
 same-length c = search needs
@@ -70,7 +70,7 @@ returns-2 c =
     let header = c .before .before .before .before .before .before .before .before .before .before .before .before .turn-header in
     let list = c .before .before .before .before .before .before .before .before .turn-list in
     let unit = c .before .before .before .before .before .before .before .before .before .before .before .before .before .before .unit-in in
-    let cut = sym (c .before .before .before .before .before .before .before .before .before .before .before .before .before .before .before .before .before .cut-image .ensures) ∙ c .before .before .before .before .before .before .before .before .before .before .before .before .before .before .before .before .if1 .left in
+    let cut = sym (c .before .before .before .before .before .before .before .before .before .before .before .before .before .before .before .before .before .image-cut .ensures) ∙ c .before .before .before .before .before .before .before .before .before .before .before .before .before .before .before .before .if1 .left in
     let both = swaps-single (a .file .now) (a .layout) (S .pre .0) (a .listing) (S .pre .1) (S .pre .2) (a .image .now) cut (unit .result) (unit .ensures) (header .last .0) (list .last .0) (header .ensures) (list .ensures)
     (c .before .before .before .before .enum-told .given .1) (c .before .before .turn-image .last .0) (c .before .before .turn-image .ensures) in
     (swaps-accepted (a .file .now) (a .layout) (S .pre .0) (a .listing) (S .pre .1) (S .pre .2) (a .image .now) cut, both .0, both .1)
@@ -88,7 +88,7 @@ returns-3 c =
     let header = c .before .before .before .before .before .before .before .before .before .before .before .before .turn-header in
     let list = c .before .before .before .before .before .before .before .before .turn-list in
     let unit = c .before .before .before .before .before .before .before .before .before .before .before .before .before .before .unit-in in
-    let cut = sym (c .before .before .before .before .before .before .before .before .before .before .before .before .before .before .before .before .before .cut-image .ensures) ∙ c .before .before .before .before .before .before .before .before .before .before .before .before .before .before .before .before .if1 .left in
+    let cut = sym (c .before .before .before .before .before .before .before .before .before .before .before .before .before .before .before .before .before .image-cut .ensures) ∙ c .before .before .before .before .before .before .before .before .before .before .before .before .before .before .before .before .if1 .left in
     let both = swaps-pair (a .file .now) (a .layout) (S .pre .0) (a .listing) (S .pre .1) (S .pre .2) (a .image .now) cut (unit .result) (unit .ensures) (header .last .0) (list .last .0) (header .ensures) (list .ensures)
     (c .before .before .before .before .enum-told2 .given .1) (c .before .before .turn-image2 .last .0) (c .before .before .turn-image2 .ensures) in
     (swaps-accepted (a .file .now) (a .layout) (S .pre .0) (a .listing) (S .pre .1) (S .pre .2) (a .image .now) cut, both .0, both .1)
@@ -97,7 +97,7 @@ pub swap-listed-spec : {M : Type 1} → statement M
 swap-listed-spec =
     tie.close
     (tie.spec
-    cut-image-requires
+    image-cut-requires
     returns
     unit-in-requires
     turn-header-requires

@@ -1,7 +1,7 @@
--- `cut_image` meets its contract: the sum fits, and only a pair is asked.
+-- `image_cut` meets its contract: the sum fits, and only a pair is asked.
 use borrow.Author.Needs.{needs}
-use Rattle.byteswap.proofs.cut_image.Statement.{statement}
-use Rattle.byteswap.proofs.cut_image.Tie as tie
+use Rattle.reader.proofs.image_cut.Statement.{statement}
+use Rattle.reader.proofs.image_cut.Tie as tie
 
 enum-told : tie.Need-enum-told
 enum-told c = search needs
@@ -18,5 +18,5 @@ returns c = search needs
 returns-2 : tie.Need-returns-2
 returns-2 c = rw (c .before .enum-told2 .given .1)
 
-pub cut-image-spec : {M : Type 1} → statement M
-cut-image-spec = tie.close (tie.spec enum-told enum-told-2 add-result returns returns-2)
+pub image-cut-spec : {M : Type 1} → statement M
+image-cut-spec = tie.close (tie.spec enum-told enum-told-2 add-result returns returns-2)
