@@ -9,8 +9,7 @@ use lib.Dec.{ltb}
 use lib.ListN.{length}
 use Rattle.field.specs.declared.Order.the-variants.{Little, Big}
 use Rattle.field.specs.Numbers.{i16At}
-use Rattle.refusal.specs.declared.Verdict.{Verdict}
-use Rattle.refusal.specs.declared.Verdict.the-variants.{Accepted, Refused}
+use Rattle.refusal.specs.declared.Verdict.the-variants.{Accepted}
 use Rattle.refusal.specs.Table.{verdict}
 use Rattle.refusal.proofs.Rows.{Clear, one, accepted-clear}
 use Rattle.refusal.proofs.Rows as rows
@@ -22,7 +21,7 @@ use Rattle.datatype.proofs.Sound.{known-sound}
 use Rattle.offset.specs.Offset.{offsetLimit}
 use Rattle.grid.specs.Axes.{imageLimit}
 use Rattle.extension.specs.declared.Span.{Span}
-use Rattle.extension.specs.Walk.{extensionLimit, firstPlace, restOf, Walked, listed, extensionsIn}
+use Rattle.extension.specs.Walk.{extensionLimit, firstPlace, restOf, listed, extensionsIn}
 use Rattle.extension.specs.Fills.{Fills, full}
 use Rattle.extension.proofs.Pieces.{opened}
 use Rattle.extension.proofs.Fills.{extensions-fill}
@@ -30,9 +29,10 @@ use Rattle.header.specs.declared.Kind.{Kind}
 use Rattle.header.specs.declared.Kind.the-variants.{Single, Pair}
 use Rattle.rules.specs.declared.Image.{Image}
 use Rattle.rules.specs.Rules.{offsetOutside, isKnown}
-use Rattle.rules.proofs.Passed.{clear-bounds}
+use Rattle.rules.proofs.Passed.{neither, clear-bounds}
 use Rattle.reader.specs.declared.Layout.{Layout}
-use Rattle.reader.specs.File.{holdsIn, shapeIn, shapeOf, fileRows, layoutOf, cutShort, regionEnd, hasExtensions, extensionsOf, unlessRefused, judgement}
+use Rattle.reader.specs.File.{holdsIn, shapeIn, shapeOf, fileRows, layoutOf, cutShort, regionEnd, hasExtensions, extensionsOf, judgement}
+use Rattle.reader.proofs.Accepted as reader
 use Rattle.byteswap.specs.Swap.{unitOf, unitIn, Placed}
 
 -- where a file's extension region ends
@@ -41,15 +41,11 @@ endIn l s = regionEnd (l .kind) (l .image) (length s)
 
 -- ---- The rules, one by one
 
-pub either-part : (a b : Bool) → (a || b) ≡ false → (a ≡ false) × (b ≡ false)
-either-part false b e = (refl, e)
-either-part true b e = let z : _≡_ {A = ℕ} 0 1 = cc in absurd (omega arith)
-
 -- rules 1, 9 and 11: the region lies behind the header, in the file, and a single file's image behind it
 region-bounds : (kind : Kind) (image : Image) (len : ℕ) → 348 ≤ len → offsetOutside kind (image .offset) len ≡ false → cutShort kind len image ≡ false
     → (348 ≤ regionEnd kind image len) × (regionEnd kind image len ≤ len)
 region-bounds Single image len long nine eleven =
-    let a = ltb-false (image .offset) 352 (either-part (ltb (image .offset) 352) (ltb offsetLimit (image .offset)) nine .0) in
+    let a = ltb-false (image .offset) 352 (neither (ltb (image .offset) 352) (ltb offsetLimit (image .offset)) nine .0) in
     let b = ltb-false len (image .offset + image .bytes) eleven in
     (omega arith, omega arith)
 region-bounds Pair image len long nine eleven = (long, omega arith)
@@ -96,10 +92,6 @@ module _ (s : List ℕ) (l : Layout) (p : Passes s l) where
 
 -- ---- The extensions
 
-refused-by : (v : Verdict) (w : Walked) (xs : List Span) → unlessRefused v w ≡ listed xs → (v ≡ Accepted) × (w ≡ listed xs)
-refused-by Accepted w xs e = (refl, e)
-refused-by (Refused r) w xs e = let z : _≡_ {A = ℕ} 0 1 = cc in absurd (omega arith)
-
 -- what rules 13 to 15 tell: a file has no extensions, or they fill its region
 pub data Listed (s : List ℕ) (l : Layout) : List Span → Type 0 where
   none : hasExtensions s ≡ false → Listed s l []
@@ -114,7 +106,7 @@ listed-by s l false xs h e = let q : [] ≡ xs = cc in rw (← q) (none h)
 module _ (s : List ℕ) (xs : List Span) (e : judgement s ≡ listed xs) where
   judged : (verdict (fileRows s) ≡ Accepted) × (extensionsOf (layoutOf s) s ≡ listed xs)
   unfolding judgement
-  judged = refused-by (verdict (fileRows s)) (extensionsOf (layoutOf s) s) xs e
+  judged = reader.listed-by (verdict (fileRows s)) (extensionsOf (layoutOf s) s) xs e
 
   pub judged-accepted : verdict (fileRows s) ≡ Accepted
   judged-accepted = judged .0

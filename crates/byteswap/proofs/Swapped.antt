@@ -27,6 +27,7 @@ use Rattle.header.specs.declared.Kind.the-variants.{Single, Pair}
 use Rattle.header.specs.Fields.{headerOf}
 use Rattle.rules.specs.declared.Image.{Image}
 use Rattle.rules.specs.Rules.{offsetOutside, fieldRows, imageOf}
+use Rattle.rules.proofs.Passed.{neither}
 use Rattle.reader.specs.File.{holdsIn, orderOf, sameBytes, kindOf, shapeIn, shapeOf, fileRows, layoutOf, cutShort, cutExtender, noExtensions, someExtensions, hasNone, hasExtensions, regionEnd, extensionsOf, unlessRefused, judgement}
 use Rattle.reader.specs.Reading.{readingBy, readingOf}
 use Rattle.units.specs.Runs.{Run, run, turnRuns, spanOf, headerRuns}
@@ -35,7 +36,7 @@ use Rattle.units.proofs.Runs.{length-turnRuns, runs-append, runs-own, runs-behi
 use Rattle.byteswap.specs.Swap.{unitIn, extensionRuns, regionRuns, ownImage, fileRuns}
 use Rattle.byteswap.specs.Other.{other, inOtherOrder, readInOther}
 use Rattle.byteswap.proofs.Turning.{fills-span}
-use Rattle.byteswap.proofs.Passes.{Passes, Listed, none, some, endIn, region-in, judged-accepted, judged-passes, judged-listed, list-fills, either-part}
+use Rattle.byteswap.proofs.Passes.{Passes, Listed, none, some, endIn, region-in, judged-accepted, judged-passes, judged-listed, list-fills}
 use Rattle.byteswap.proofs.Whole.{file-span}
 use Rattle.byteswap.proofs.Places.{unitsAt, tabulate-same, text-same}
 use Rattle.byteswap.proofs.Fields.{magic-same, kind-same, holds-same, order-other, size-same, shape-same, unit-same, header-same}
@@ -61,7 +62,7 @@ extender-single : (image : Image) (rs : List Run) (s : List ℕ) → offsetOutsi
     → spanOf (headerRuns ++ (run 1 (image .offset - 348) ∷ rs)) ≤ length s
     → bytesAt 348 4 (turnRuns (headerRuns ++ (run 1 (image .offset - 348) ∷ rs)) s) ≡ bytesAt 348 4 s
 extender-single image rs s h room =
-    let least = ltb-false (image .offset) 352 (either-part (ltb (image .offset) 352) (ltb offsetLimit (image .offset)) h .0) in
+    let least = ltb-false (image .offset) 352 (neither (ltb (image .offset) 352) (ltb offsetLimit (image .offset)) h .0) in
     text-same (headerRuns ++ (run 1 (image .offset - 348) ∷ rs)) s room 348 4 (stay-at (image .offset - 348) rs (omega arith))
 
 extender-pair : (n : ℕ) (s : List ℕ) → spanOf headerRuns ≤ length s → bytesAt 348 4 (turnRuns (headerRuns ++ (run 1 n ∷ [])) s) ≡ bytesAt 348 4 s

@@ -9,8 +9,7 @@ use lib.Dec.{ltb, eqb}
 use lib.ListN.{length, getD, take, drop, length-drop, take-append-drop, drop-of-length-le}
 use lib.Seq.{drop-append-le, length-take-le}
 use Rattle.field.specs.Numbers.{joined}
-use Rattle.refusal.specs.declared.Verdict.{Verdict}
-use Rattle.refusal.specs.declared.Verdict.the-variants.{Accepted, Refused}
+use Rattle.refusal.specs.declared.Verdict.the-variants.{Accepted}
 use Rattle.refusal.specs.Table.{verdict}
 use Rattle.refusal.proofs.Rows.{Clear, none, one, accepted-clear}
 use Rattle.offset.specs.Offset.{offsetLimit}
@@ -26,9 +25,11 @@ use Rattle.header.specs.declared.Kind.the-variants.{Single, Pair}
 use Rattle.header.specs.Fields.{headerOf}
 use Rattle.rules.specs.declared.Image.{Image}
 use Rattle.rules.specs.Rules.{offsetOutside, imageOf}
+use Rattle.rules.proofs.Passed.{neither}
 use Rattle.reader.specs.declared.Reading.{Reading}
-use Rattle.reader.specs.File.{orderOf, kindOf, shapeOf, cutShort, cutExtender, hasNone, hasExtensions, shapeIn, fileRows, layoutOf, regionEnd, extensionsOf, unlessRefused, judgement}
+use Rattle.reader.specs.File.{orderOf, kindOf, shapeOf, cutShort, cutExtender, hasNone, hasExtensions, shapeIn, fileRows, layoutOf, regionEnd, extensionsOf, judgement}
 use Rattle.reader.specs.Reading.{readingBy, readingOf}
+use Rattle.reader.proofs.Accepted.{listed-by}
 use Rattle.edit.specs.Fresh.{endOf, extensionList, tailBy, tailOf}
 use Rattle.edit.proofs.Exchanging.{joined-some}
 
@@ -61,14 +62,6 @@ held f r e a = by (judgement f) refl e
     by (stopped q) j s = let z : _≡_ {A = ℕ} 0 1 = cc in absurd (omega arith)
 
 -- ---- what an accepted file is like
-
-listed-by : (v : Verdict) (w : Walked) (ss : List Span) → unlessRefused v w ≡ listed ss → (v ≡ Accepted) × (w ≡ listed ss)
-listed-by Accepted w ss e = (refl, e)
-listed-by (Refused r) w ss e = let z : _≡_ {A = ℕ} 0 1 = cc in absurd (omega arith)
-
-pub neither : (a b : Bool) → (a || b) ≡ false → (a ≡ false) × (b ≡ false)
-neither false b e = (refl, e)
-neither true b e = let z : _≡_ {A = ℕ} 0 1 = cc in absurd (omega arith)
 
 -- where the region of the extensions ends, by rules 9 and 11
 pub record Bounds (kind : Kind) (image : Image) (len : ℕ) : Type 0 where

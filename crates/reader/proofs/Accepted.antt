@@ -38,7 +38,7 @@ no-file : (kind : Kind) (n len : ℕ) → offsetOutside kind n len ≡ false →
 no-file Single n len e = e
 no-file Pair n len e = first-false (ltb offsetLimit n) (ltb offsetLimit len) e
 
-listed-by : (v : Verdict) (w : Walked) (xs : List Span) → unlessRefused v w ≡ listed xs → (v ≡ Accepted) × (w ≡ listed xs)
+pub listed-by : (v : Verdict) (w : Walked) (xs : List Span) → unlessRefused v w ≡ listed xs → (v ≡ Accepted) × (w ≡ listed xs)
 listed-by Accepted w xs e = (refl, e)
 listed-by (Refused r) w xs e = let z : _≡_ {A = ℕ} 0 1 = cc in absurd (omega arith)
 

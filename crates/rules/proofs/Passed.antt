@@ -29,7 +29,7 @@ failed-by : (v : Verdict) (i : Image) (r : Refusal) → judgedBy v i ≡ Failed 
 failed-by Accepted i r e = let z : _≡_ {A = ℕ} 0 1 = cc in absurd (omega arith)
 failed-by (Refused q) i r e = cc
 
-neither : (a b : Bool) → (a || b) ≡ false → (a ≡ false) × (b ≡ false)
+pub neither : (a b : Bool) → (a || b) ≡ false → (a ≡ false) × (b ≡ false)
 neither false b e = (refl, e)
 neither true b e = let z : _≡_ {A = ℕ} 0 1 = cc in absurd (omega arith)
 
