@@ -1,6 +1,6 @@
 -- One entry of dim, a signed number of 16 bits, and the length that it states.
 use mathlib.Core.Path.{_≡_, refl, sym}
-use mathlib.Core.Bool.{true, false}
+use mathlib.Core.Bool.{Bool, true, false}
 use Prim.Native.Nat.{ℕ, _≤_, _<_}
 use native.Mathlib.Omega.{arith}
 use lib.IntN.{ℤ, pos, negsuc}
@@ -16,6 +16,14 @@ use Rattle.grid.specs.Axes.{belowOne, extent}
 pub below-extent : (z : ℤ) → belowOne z ≡ ltb (extent z) 1
 below-extent (pos n) = refl
 below-extent (negsuc n) = sym (lt-ltb 0 1 (omega arith))
+
+-- whatever 16 bits it has, its length is below half of what they count to
+pub half : (n : ℕ) → extent (toZ w16 n) < 32768
+half n = by (ltb n 32768) refl
+  where
+    by : (t : Bool) → ltb n 32768 ≡ t → extent (toZ w16 n) < 32768
+    by true e = rw e (ltb-true n 32768 e)
+    by false e = rw e (omega arith)
 
 -- an entry's bits, read back
 back : (z : ℤ) → mag z < 32768 → toZ w16 (ofZ w16 z) ≡ z

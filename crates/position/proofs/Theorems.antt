@@ -12,8 +12,6 @@ use lib.Seq.{getD-append-add}
 use lib.IntN.{ℤ, pos}
 use lib.Signed.{leZ}
 use lib.Ieee.Scale.{finite}
-use mir.Syntax.{w16}
-use mir.Val.{toZ}
 use Rattle.field.specs.declared.Order.{Order}
 use Rattle.field.specs.declared.Order.the-variants.{Little}
 use Rattle.field.specs.Numbers.{u16At, i16sAt}
@@ -24,6 +22,7 @@ use Rattle.refusal.proofs.Rows.{Clear, none, one, accepted-clear}
 use Rattle.extension.specs.Walk.{Walked, listed, stopped}
 use Rattle.grid.specs.Grid.{within}
 use Rattle.grid.specs.Axes.{dimAt, extent, axes, sevenAxes}
+use Rattle.grid.proofs.Entry.{half}
 use Rattle.grid.proofs.Axes.{length-axes, axes-at}
 use Rattle.grid.proofs.Voxels.{within-both}
 use Rattle.header.specs.declared.Header.{Header}
@@ -72,13 +71,6 @@ position-in-exact h w i j k a hi hj hk =
     (placed-exactly (placedIn h i j k) _ _ _ (position-exact (w .x) (w .y) (w .z) i j k hi hj hk))
 
 -- ---- the lengths of a file's axes
-half : (n : ℕ) → extent (toZ w16 n) < 32768
-half n = by (ltb n 32768) refl
-  where
-    by : (t : Bool) → ltb n 32768 ≡ t → extent (toZ w16 n) < 32768
-    by true e = rw e (ltb-true n 32768 e)
-    by false e = rw e (omega arith)
-
 axis-half : (dim : List ℤ) (axis : ℕ) → extent (dimAt dim axis) < 32768 → lengthAt dim axis < 32768
 axis-half dim axis h = go (leb axis (axisCount dim))
   where

@@ -7,19 +7,17 @@ use mathlib.Core.List.{List, []}
 use mathlib.Core.Logic.{_⊎_, inl, inr}
 use Prim.Native.Nat.{ℕ, _*_, _≤_, _<_}
 use native.Mathlib.Omega.{arith}
-use borrow.Author.Tests.{not-false, ltb-true, lt-ltb}
+use borrow.Author.Tests.{not-false, lt-ltb}
 use lib.Dec.{leb, ltb}
 use lib.Ieee.{Float, binary32, ofBits, round}
 use lib.Ieee.Positive.{num, den}
 use lib.Ieee.Scale.{finite}
-use mir.Syntax.{w16}
-use mir.Val.{toZ}
 use Rattle.field.specs.declared.Order.the-variants.{Little}
 use Rattle.field.specs.Numbers.{u16At}
 use Rattle.refusal.specs.declared.Verdict.{Verdict}
 use Rattle.refusal.specs.declared.Verdict.the-variants.{Accepted, Refused as Breaks}
 use Rattle.extension.specs.Walk.{Walked, listed, stopped}
-use Rattle.grid.specs.Axes.{extent}
+use Rattle.grid.proofs.Entry.{half}
 use Rattle.header.specs.declared.Header.{Header}
 use Rattle.header.specs.Fields.{headerOf}
 use Rattle.reader.specs.File.{orderOf, judgement}
@@ -99,14 +97,6 @@ module _ (h : Header) (s : ℕ) where
   outside-padding e l (inr o) = sym (slice-padding h s e l (rw (lt-ltb (lastSlice h) s o) (or-true (ltb s (firstSlice h)))))
 
 -- ---- of a file
--- the length that a field of 16 bits states
-half : (n : ℕ) → extent (toZ w16 n) < 32768
-half n = by (ltb n 32768) refl
-  where
-    by : (t : Bool) → ltb n 32768 ≡ t → extent (toZ w16 n) < 32768
-    by true e = rw e (ltb-true n 32768 e)
-    by false e = rw e (omega arith)
-
 last-half : (file : List ℕ) → lastSlice (readingOf file .header) < 32768
 unfolding readingOf headerOf
 last-half file = go (judgement file)

@@ -1,11 +1,9 @@
 -- An index inside the seven axes of a file's dims is one that the calls take: seven numbers, each below 32768.
 use Prim.Native.Nat.{ℕ, zero, suc, _+_, _*_, _-_, _≤_}
 use mathlib.Core.Path.{_≡_, refl, ap, _∙_}
-use mathlib.Core.Bool.{Bool, true, false}
+use mathlib.Core.Bool.{true}
 use mathlib.Core.List.{List, [], _∷_, _++_}
 use native.Mathlib.Omega.{arith}
-use borrow.Author.Tests.{ltb-true}
-use lib.Dec.{ltb}
 use lib.IntN.{ℤ}
 use lib.ListN.{length, getD, replicate, length-append, length-replicate}
 use mir.Syntax.{w16}
@@ -14,6 +12,7 @@ use Rattle.field.specs.declared.Order.{Order}
 use Rattle.field.specs.Numbers.{tabulate, u16At, i16sAt}
 use Rattle.grid.specs.Grid.{within}
 use Rattle.grid.specs.Axes.{dimAt, extent, axes, sevenAxes}
+use Rattle.grid.proofs.Entry.{half}
 use Rattle.grid.proofs.Axes.{length-axes}
 use Rattle.grid.proofs.Voxels.{within-both}
 
@@ -68,16 +67,9 @@ within-most m (d ∷ ds) (i ∷ is) h f zero = omega (arith, within-both d ds i 
 within-most m (d ∷ ds) (i ∷ is) h f (suc k) = within-most m ds is (within-both d ds i is h .1) (λ j. f (suc j)) k
 
 -- dim entries are signed 16-bit
-signed-most : (n : ℕ) → extent (toZ w16 n) ≤ 32767
-signed-most n = by (ltb n 32768) refl
-  where
-    by : (t : Bool) → ltb n 32768 ≡ t → extent (toZ w16 n) ≤ 32767
-    by true e = rw e (omega (arith, ltb-true n 32768 e))
-    by false e = rw e (omega arith)
-
 dims-most : (f : ℕ → ℕ) (n k : ℕ) → extent (dimAt (tabulate (λ i. toZ w16 (f i)) n) k) ≤ 32767
 dims-most f zero k = omega arith
-dims-most f (suc n) zero = signed-most (f 0)
+dims-most f (suc n) zero = omega (arith, half (f 0))
 dims-most f (suc n) (suc k) = dims-most (λ i. f (suc i)) n k
 
 pub index-seven : (order : Order) (s : List ℕ) (n : ℕ) (index : List ℕ) → n ≤ 7 → within (sevenAxes (i16sAt order s 40 8) n) index ≡ true
