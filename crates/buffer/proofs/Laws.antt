@@ -6,7 +6,7 @@ use Prim.Native.Nat.{ℕ, zero, suc, _+_, _-_, _≤_, _<_}
 use native.Mathlib.Nat.{zero-sub, suc-sub-suc, sub-zero, add-zero, sub-self, add-sub-cancel-left}
 use native.Mathlib.Omega.{arith}
 use lib.ListN.{length, getD, take, drop, length-take, length-drop, length-append, take-append-drop, List·getD-append}
-use lib.Seq.{length-take-le, take-append-le, drop-append-le, take-append-add, drop-append-add, take-at, drop-at, take-take, drop-drop, take-nil, getD-take, getD-drop}
+use lib.Seq.{length-take-le, take-append-le, drop-append-le, take-append-add, drop-append-add, take-at, drop-at, take-take, drop-drop, take-nil, getD-take, getD-drop, sets, sets-eq}
 use Rattle.buffer.specs.Put.{put}
 
 -- what lies from m on of the first n is the first n - m of what lies from m on
@@ -20,6 +20,11 @@ drop-take (suc m) (suc n) (x ∷ xs) = rw suc-sub-suc (drop-take m n xs)
 pub put-nil : (l : List ℕ) (at : ℕ) → put l at [] ≡ l
 unfolding put
 put-nil l at = rw (add-zero, take-append-drop)
+
+-- a run of stores inside the buffer is a write
+pub sets-put : (l : List ℕ) (at : ℕ) (e : List ℕ) → at + length e ≤ length l → sets l at e ≡ put l at e
+unfolding put
+sets-put l at e h = sets-eq e l at h ∙ append-assoc (take at l) e (drop (at + length e) l)
 
 -- what lies there already, written anew
 pub put-same : (l : List ℕ) (at n : ℕ) → at + n ≤ length l → put l at (take n (drop at l)) ≡ l

@@ -10,7 +10,7 @@ use lib.Dec.{leb}
 use lib.ListN.{length, getD}
 use Rattle.field.specs.declared.Order.{Order}
 use Rattle.field.specs.declared.Order.the-variants.{Little, Big}
-use Rattle.field.specs.Numbers.{u16At, i32At}
+use Rattle.field.specs.Numbers.{other, u16At, i32At}
 use Rattle.datatype.specs.Datatypes.{datatypeOf}
 use Rattle.datatype.proofs.Bits.{both}
 use Rattle.extension.specs.declared.Span.{Span}
@@ -23,7 +23,7 @@ use Rattle.rules.proofs.Seven.{seven-bits}
 use Rattle.reader.specs.File.{holdsIn, orderOf, sameBytes, hasMagic, kindOf, shapeIn}
 use Rattle.units.specs.Runs.{Run, turnRuns, spanOf, headerRuns}
 use Rattle.byteswap.specs.Swap.{unitOf, unitIn}
-use Rattle.byteswap.specs.Other.{other, inOtherOrder}
+use Rattle.byteswap.specs.Other.{inOtherOrder}
 use Rattle.byteswap.proofs.Places.{u32s-same, i16s-same, u32-same, i32-same, i16-same, text-same, byte-same}
 
 -- ---- dim[0] is in 1..7 in one byte order at most

@@ -5,35 +5,18 @@ use mathlib.Core.Path.{_≡_, refl, sym, ap, _∙_}
 use mathlib.Core.List.{List, [], _∷_, _++_}
 use native.Mathlib.Omega.{arith}
 use lib.IntN.{pos, natAbs}
-use lib.ListN.{length, take, drop, length-drop}
+use lib.ListN.{length}
 use lib.Seq.{take-at, drop-at}
 use Rattle.field.specs.declared.Order.{Order}
-use Rattle.field.specs.Numbers.{i32At, joined}
+use Rattle.field.specs.Numbers.{other, i32At, joined}
 use Rattle.extension.specs.declared.Span.{Span}
 use Rattle.extension.specs.Walk.{extensionLimit, spanAt, walk, listed}
 use Rattle.extension.specs.Pieces.{pieces, Whole, Wholes, none, one, spansFrom}
 use Rattle.extension.proofs.Pieces.{opened, walk-join, length-spansFrom}
 use Rattle.units.specs.Runs.{Run, run, turnRuns, spanOf}
-use Rattle.units.proofs.Runs.{length-turnRuns, length-own-runs, runs-append}
+use Rattle.units.proofs.Runs.{length-turnRuns, runs-append}
 use Rattle.byteswap.specs.Swap.{extensionRuns}
-use Rattle.byteswap.specs.Other.{other}
 use Rattle.byteswap.proofs.Places.{i32-same}
-
--- runs between others: their bytes in the result are the old ones, turned round by these runs alone
-pub runs-middle : (before middle after : List Run) (l : List ℕ) → spanOf before + spanOf middle ≤ length l
-    → take (spanOf middle) (drop (spanOf before) (turnRuns (before ++ (middle ++ after)) l)) ≡ turnRuns middle (take (spanOf middle) (drop (spanOf before) l))
-runs-middle before middle after l h =
-    let d : List ℕ = drop (spanOf before) l in
-    let f : List ℕ = turnRuns before (take (spanOf before) l) in
-    let m : List ℕ = turnRuns middle (take (spanOf middle) d) in
-    let r : List ℕ = turnRuns after (drop (spanOf middle) d) in
-    let room : spanOf middle ≤ length d = rw length-drop (omega arith) in
-    rw (
-      runs-append before (middle ++ after) l,
-      drop-at f (turnRuns (middle ++ after) d) (spanOf before) (length-own-runs before l (omega arith)),
-      runs-append middle after d,
-    )
-    (take-at m r (spanOf middle) (length-own-runs middle d room))
 
 -- ---- One extension
 

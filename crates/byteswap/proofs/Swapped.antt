@@ -12,7 +12,8 @@ use lib.ListN.{length, take, drop, getD, take-append-drop}
 use lib.Seq.{getD-drop}
 use Rattle.field.specs.declared.Order.{Order}
 use Rattle.field.specs.declared.Order.the-variants.{Little, Big}
-use Rattle.field.specs.Numbers.{bytesAt, i32At}
+use Rattle.field.specs.Numbers.{other, bytesAt, i32At}
+use Rattle.field.proofs.Tabulate.{tabulate-same}
 use Rattle.refusal.specs.declared.Verdict.the-variants.{Accepted}
 use Rattle.refusal.specs.Table.{row, verdict}
 use Rattle.offset.specs.Offset.{offsetLimit}
@@ -32,15 +33,16 @@ use Rattle.reader.specs.File.{holdsIn, orderOf, sameBytes, kindOf, shapeIn, sha
 use Rattle.reader.specs.Reading.{readingBy, readingOf}
 use Rattle.units.specs.Runs.{Run, run, turnRuns, spanOf, headerRuns}
 use Rattle.units.proofs.Units.{drop-take, turned-bytes}
-use Rattle.units.proofs.Runs.{length-turnRuns, runs-append, runs-own, runs-behind, header-span}
+use Rattle.units.proofs.Runs.{length-turnRuns, runs-append, runs-own, runs-behind, runs-middle, header-span}
+use Rattle.units.proofs.Places.{unitsAt}
 use Rattle.byteswap.specs.Swap.{unitIn, extensionRuns, regionRuns, ownImage, fileRuns}
-use Rattle.byteswap.specs.Other.{other, inOtherOrder, readInOther}
+use Rattle.byteswap.specs.Other.{inOtherOrder, readInOther}
 use Rattle.byteswap.proofs.Turning.{fills-span}
 use Rattle.byteswap.proofs.Passes.{Passes, Listed, none, some, endIn, region-in, judged-accepted, judged-passes, judged-listed, list-fills}
 use Rattle.byteswap.proofs.Whole.{file-span}
-use Rattle.byteswap.proofs.Places.{unitsAt, tabulate-same, text-same}
+use Rattle.byteswap.proofs.Places.{text-same}
 use Rattle.byteswap.proofs.Fields.{magic-same, kind-same, holds-same, order-other, size-same, shape-same, unit-same, header-same}
-use Rattle.byteswap.proofs.Regions.{runs-middle, walk-turned}
+use Rattle.byteswap.proofs.Regions.{walk-turned}
 
 -- ---- The extender
 

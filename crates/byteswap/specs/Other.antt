@@ -1,12 +1,7 @@
 -- What a swapped file comes to: its reading is the old one in the other byte order, every number and text of the record as it was.
-use Rattle.field.specs.declared.Order.{Order}
-use Rattle.field.specs.declared.Order.the-variants.{Little, Big}
+use Rattle.field.specs.Numbers.{other}
 use Rattle.header.specs.declared.Header.{Header}
 use Rattle.reader.specs.declared.Reading.{Reading}
-
-abbrev pub other : Order → Order
-other Little = Big
-other Big = Little
 
 abbrev pub inOtherOrder : Header → Header
 inOtherOrder h =

@@ -1,7 +1,7 @@
 -- The header of a fresh file: every byte of the old one but the four of a single file's vox_offset.
-use Prim.Native.Nat.{ℕ, zero, suc, _+_, _-_, _*_, _≤_, _<_}
+use Prim.Native.Nat.{ℕ, _+_, _*_, _≤_, _<_}
 use mathlib.Core.Path.{_≡_, refl, sym, ap, _∙_}
-use mathlib.Core.List.{List, _∷_, _++_, append-assoc}
+use mathlib.Core.List.{List, _++_, append-assoc}
 use native.Mathlib.Omega.{arith}
 use lib.ListN.{length, getD, take, List·getD-append}
 use lib.Seq.{length-take-le, getD-take, take-at}
@@ -9,8 +9,10 @@ use mir.Syntax.{w16}
 use mir.Val.{toZ}
 use Rattle.field.specs.declared.Order.{Order}
 use Rattle.field.specs.declared.Order.the-variants.{Little}
-use Rattle.field.specs.Numbers.{tabulate, bytesAt, numberOf, bytesOf, u16At, u32At, i16At, i16sAt, joined}
+use Rattle.field.specs.Numbers.{bytesAt, numberOf, bytesOf, u16At, u32At, i16At, i16sAt, joined}
+use Rattle.field.proofs.Inverse.{word-at}
 use Rattle.field.proofs.Stores.{length-bytesOf}
+use Rattle.field.proofs.Tabulate.{tabulate-same}
 use Rattle.offset.specs.Offset.{offsetBits}
 use Rattle.offset.proofs.Back.{bits-fit}
 use Rattle.extension.proofs.Regions.{u32-same}
@@ -20,12 +22,7 @@ use Rattle.reader.specs.File.{holdsIn, orderOf, hasMagic, kindOf}
 use Rattle.buffer.specs.Put.{put}
 use Rattle.buffer.proofs.Laws.{getD-put-before, getD-put-after}
 use Rattle.edit.specs.Fresh.{tailOf, extenderFor, endFor, headFor, freshFile}
-use Rattle.edit.proofs.Storing.{word-at}
 use Rattle.edit.proofs.Planning.{length-top}
-
-tabulate-same {ℓ} : {A : Type ℓ} (f g : ℕ → A) (n : ℕ) → ((i : ℕ) → i < n → f i ≡ g i) → tabulate f n ≡ tabulate g n
-tabulate-same f g zero h = refl
-tabulate-same f g (suc n) h = λ i. h 0 (omega arith) i ∷ tabulate-same (λ k. f (suc k)) (λ k. g (suc k)) n (λ k b. h (suc k) (omega arith)) i
 
 -- the bytes from `at` up to `at + w` are none of vox_offset's
 pub data Apart (at w : ℕ) : Type 0 where

@@ -1,24 +1,23 @@
 -- The stored extension E: its length, that it is whole, and that its size is the least that the rules allow.
 use Prim.Native.Nat.{ℕ, _+_, _-_, _%_, _≤_, _<_}
-use mathlib.Core.Path.{_≡_, refl, ap, _∙_}
+use mathlib.Core.Path.{_≡_, refl, _∙_}
 use mathlib.Core.Bool.{false}
 use mathlib.Core.List.{List, [], _++_, append-assoc}
 use native.Mathlib.Omega.{arith}
 use lib.IntN.{ℤ, pos}
-use lib.ListN.{length, take, drop, replicate, length-append, length-replicate}
-use lib.Seq.{sets, sets-eq, take-at, drop-at}
+use lib.ListN.{length, replicate, length-append, length-replicate}
+use lib.Seq.{sets}
 use lib.Signed.{ltZ}
 use mir.Syntax.{w32}
 use mir.Val.{SFits, ofZ}
 use mir.ValLaws.{toZ-pos, toZ-ofZ, ofZ-fits}
 use Rattle.field.specs.declared.Order.{Order}
-use Rattle.field.specs.Numbers.{bytesOf, bytesAt, numberOf, u32At}
-use Rattle.field.proofs.Inverse.{bytes-number}
+use Rattle.field.specs.Numbers.{bytesOf, u32At}
+use Rattle.field.proofs.Inverse.{word-at}
 use Rattle.field.proofs.Stores.{length-bytesOf}
-use Rattle.field.proofs.Tabulate.{bytesAt-part}
 use Rattle.extension.specs.Pieces.{Whole}
 use Rattle.buffer.specs.Put.{put}
-use Rattle.buffer.proofs.Laws.{put-right}
+use Rattle.buffer.proofs.Laws.{sets-put, put-right}
 use Rattle.edit.specs.Fresh.{sizeFor, stored}
 
 -- "the least multiple of 16 that is at least L + 8"
@@ -28,16 +27,6 @@ size-least n = (omega arith, omega arith, λ m u h. omega arith)
 pub length-stored : (order : Order) (code : ℤ) (p : List ℕ) → length (stored order code p) ≡ sizeFor (length p)
 unfolding stored
 length-stored order code p = simp (length-append, length-bytesOf, length-replicate) (omega arith)
-
--- a number of four bytes, read where it stands
-pub word-at : (order : Order) (a r : List ℕ) (n at : ℕ) → length a ≡ at → n < 4294967296 → u32At order (a ++ (bytesOf order 4 n ++ r)) at ≡ n
-unfolding u32At
-word-at order a r n at e h =
-    let s = a ++ (bytesOf order 4 n ++ r) in
-    let b = length-bytesOf order 4 n in
-    let room : at + 4 ≤ length s = rw (length-append, length-append) (omega arith) in
-    let part : bytesAt at 4 s ≡ bytesOf order 4 n = bytesAt-part at 4 s room ∙ rw (drop-at a (bytesOf order 4 n ++ r) at e) (take-at (bytesOf order 4 n) r 4 b) in
-    ap (numberOf order) part ∙ bytes-number order 4 n h
 
 -- with a code that is not negative, it is a whole extension
 pub stored-whole : (order : Order) (code : ℤ) (p : List ℕ) → SFits w32 code → ltZ code (pos 0) ≡ false → sizeFor (length p) < 2147483648
@@ -56,11 +45,6 @@ stored-whole order code p f c h =
       units = rw l (omega arith);
       code = rw (second, toZ-ofZ w32 code f) c;
     }
-
--- a run of stores inside the buffer is a write
-pub sets-put : (l : List ℕ) (at : ℕ) (e : List ℕ) → at + length e ≤ length l → sets l at e ≡ put l at e
-unfolding put
-sets-put l at e h = sets-eq e l at h ∙ append-assoc (take at l) e (drop (at + length e) l)
 
 -- the four stores that make it
 pub stored-put : (l : List ℕ) (at : ℕ) (order : Order) (code : ℤ) (p b₁ b₂ b₃ b₄ : List ℕ) → at + sizeFor (length p) ≤ length l

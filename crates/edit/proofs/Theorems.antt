@@ -29,10 +29,11 @@ use Rattle.header.specs.declared.Kind.the-variants.{Single, Pair}
 use Rattle.header.specs.Fields.{headerOf}
 use Rattle.rules.specs.declared.Image.{Image}
 use Rattle.rules.specs.declared.Shape.{Shape}
-use Rattle.rules.specs.Rules.{imageOf}
+use Rattle.rules.specs.Rules.{imageOf, shapeOfRecord}
 use Rattle.reader.specs.declared.Reading.{Reading}
 use Rattle.reader.specs.File.{orderOf, kindOf, shapeIn, shapeOf, judgement}
 use Rattle.reader.specs.Reading.{readingBy, readingOf, IsAccepted}
+use Rattle.reader.proofs.Accepted.{accepted-image, accepted-shape}
 use Rattle.buffer.specs.Settled.{settled}
 use Rattle.buffer.proofs.Settled.{take-settled}
 use Rattle.edit.specs.declared.Change.{Change}
@@ -46,7 +47,7 @@ use Rattle.edit.proofs.Planning.{length-fresh, outBytes, out-inside, wh
 use Rattle.edit.proofs.Deciding.{past-by, Allowed, allowed, onward-both}
 use Rattle.edit.proofs.Splicing.{edited-whole}
 use Rattle.edit.proofs.Keeping.{Apart, before, after, same-bytes, same-order, same-kind, pair-head}
-use Rattle.edit.proofs.Rereading.{Ends, shape-is, tail-single, image-moved, image-kept, image-bytes, judged-new, list-new, tail-new}
+use Rattle.edit.proofs.Rereading.{Ends, reshaped, shape-is, tail-single, image-moved, image-kept, image-bytes, judged-new, list-new, tail-new}
 
 -- "The voxel's place .. in a single file .. moves by exactly as much as the voxel offset", and the offset as much as the list's bytes
 pub record Moved (f g : List ℕ) (xs : List (List ℕ)) : Type 0 where
@@ -84,44 +85,25 @@ pub record Renewed (f g : List ℕ) (xs : List (List ℕ)) : Type 0 where
 
 -- ---- an accepted file's record
 
-reading-is : (s : List ℕ) (ss : List Span) → judgement s ≡ listed ss → readingOf s ≡ readingBy s (listed ss)
-unfolding readingOf
-reading-is s ss j = ap (readingBy s) j
-
 module _ (s : List ℕ) (ss : List Span) (j : judgement s ≡ listed ss) where
-  is-accepted : IsAccepted s
-  is-accepted = ap (λ (r : Reading). r .verdict) (reading-is s ss j)
+  reading-is : readingOf s ≡ readingBy s (listed ss)
+  unfolding readingOf
+  reading-is = ap (readingBy s) j
 
-  image-of : readingOf s .image ≡ imageOf (shapeOf s)
-  image-of = ap (λ (r : Reading). r .image) (reading-is s ss j)
+  is-accepted : IsAccepted s
+  is-accepted = ap (λ (r : Reading). r .verdict) reading-is
 
   order-of : readingOf s .header .order ≡ orderOf s
   unfolding headerOf
-  order-of = ap (λ (r : Reading). r .header .order) (reading-is s ss j)
-
-  kind-of : readingOf s .header .kind ≡ kindOf s
-  unfolding headerOf
-  kind-of = ap (λ (r : Reading). r .header .kind) (reading-is s ss j)
-
-  dim-of : readingOf s .header .dim ≡ shapeOf s .dim
-  unfolding headerOf shapeIn
-  dim-of = ap (λ (r : Reading). r .header .dim) (reading-is s ss j)
-
-  datatype-of : readingOf s .header .intent .datatype ≡ shapeOf s .datatype
-  unfolding headerOf shapeIn
-  datatype-of = ap (λ (r : Reading). r .header .intent .datatype) (reading-is s ss j)
-
-  bitpix-of : readingOf s .header .intent .bitpix ≡ shapeOf s .bitpix
-  unfolding headerOf shapeIn
-  bitpix-of = ap (λ (r : Reading). r .header .intent .bitpix) (reading-is s ss j)
+  order-of = ap (λ (r : Reading). r .header .order) reading-is
 
   count-of : readingOf s .header .count ≡ length ss
   unfolding headerOf
-  count-of = ap (λ (r : Reading). r .header .count) (reading-is s ss j)
+  count-of = ap (λ (r : Reading). r .header .count) reading-is
 
   spans-of : readingOf s .header .spans ≡ spansOf ss
   unfolding headerOf
-  spans-of = ap (λ (r : Reading). r .header .spans) (reading-is s ss j)
+  spans-of = ap (λ (r : Reading). r .header .spans) reading-is
 
 -- ---- the fresh file
 
@@ -153,14 +135,31 @@ module _ (f : List ℕ) (room : ℕ) (change : Change) (code : ℤ) (p : List �
       let r : endOf f ≡ imageOf (shapeOf f) .offset = rw k in
       omega arith
 
+  old-accepted : IsAccepted f
+  old-accepted = is-accepted f (may .spans) (may .judged)
+
+  new-accepted : IsAccepted g
+  new-accepted = is-accepted g (spansFrom (orderOf f) firstPlace xs) judged
+
   image-old : readingOf f .image ≡ imageOf (shapeOf f)
-  image-old = image-of f (may .spans) (may .judged)
+  image-old = accepted-image f old-accepted
 
   image-new : readingOf g .image ≡ imageOf (shapeOf g)
-  image-new = image-of g (spansFrom (orderOf f) firstPlace xs) judged
+  image-new = accepted-image g new-accepted
 
   old-long : 348 ≤ length f
   old-long = may .known .long
+
+  -- the fields that rules 5 to 10 judge, in the two records
+  shape-old : shapeOfRecord (readingOf f .header) ≡ shapeOf f
+  shape-old = accepted-shape f old-accepted
+
+  shape-new : shapeOfRecord (readingOf g .header) ≡ reshaped (endFor xs) (shapeOf f)
+  shape-new = accepted-shape g new-accepted ∙ shape-is f xs old-long
+
+  kind-old : readingOf f .header .kind ≡ kindOf f
+  unfolding shapeIn
+  kind-old = ap (λ (s : Shape). s .kind) shape-old
 
   new-long : 348 ≤ length g
   new-long = let n = length-fresh f xs old-long in omega arith
@@ -196,22 +195,21 @@ module _ (f : List ℕ) (room : ℕ) (change : Change) (code : ℤ) (p : List �
       let ss = spansFrom (orderOf f) firstPlace xs in
       let old = may .spans in
       let oj = may .judged in
-      let shape = shape-is f xs old-long in
       record {
-        accepted = is-accepted g ss judged;
+        accepted = new-accepted;
         walked = judged;
         list = list-new f xs old-long ends (edited-whole f room change code p fits may) (may .count-limit) (sound f old oj .clear);
         count = count-of g ss judged ∙ length-spansFrom (orderOf f) firstPlace xs;
         spans = spans-of g ss judged;
         order-same = order-of g ss judged ∙ same-order f xs old-long ∙ sym (order-of f old oj);
-        kind-same = kind-of g ss judged ∙ same-kind f xs old-long ∙ sym (kind-of f old oj);
-        dim-same = dim-of g ss judged ∙ ap (λ (s : Shape). s .dim) shape ∙ sym (dim-of f old oj);
-        datatype-same = datatype-of g ss judged ∙ ap (λ (s : Shape). s .datatype) shape ∙ sym (datatype-of f old oj);
-        bitpix-same = bitpix-of g ss judged ∙ ap (λ (s : Shape). s .bitpix) shape ∙ sym (bitpix-of f old oj);
+        kind-same = ap (λ (s : Shape). s .kind) shape-new ∙ sym (ap (λ (s : Shape). s .kind) shape-old);
+        dim-same = ap (λ (s : Shape). s .dim) shape-new ∙ sym (ap (λ (s : Shape). s .dim) shape-old);
+        datatype-same = ap (λ (s : Shape). s .datatype) shape-new ∙ sym (ap (λ (s : Shape). s .datatype) shape-old);
+        bitpix-same = ap (λ (s : Shape). s .bitpix) shape-new ∙ sym (ap (λ (s : Shape). s .bitpix) shape-old);
         bytes-same = ap (λ (i : Image). i .bytes) image-new ∙ image-bytes f xs old-long ends ∙ sym (ap (λ (i : Image). i .bytes) image-old);
         apart-same = same-bytes f xs old-long;
-        single = λ k. moved (sym (kind-of f old oj) ∙ k);
-        pair = λ k. stayed (sym (kind-of f old oj) ∙ k);
+        single = λ k. moved (sym kind-old ∙ k);
+        pair = λ k. stayed (sym kind-old ∙ k);
       }
 
 -- ---- the buffer

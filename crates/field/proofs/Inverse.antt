@@ -5,14 +5,16 @@ use mathlib.Core.Path.{_≡_, refl, ap, _∙_, sym}
 use mathlib.Core.List.{List, [], _∷_, _++_, reverse, reverseAux, reverse-reverse}
 use native.Mathlib.Omega.{arith}
 use native.Mathlib.Nat.{pow-suc}
-use lib.ListN.{length, getD, length-reverse}
+use lib.ListN.{length, getD, length-append, length-reverse}
+use lib.Seq.{take-at, drop-at}
 use mir.Syntax.{w16, w32}
 use mir.Val.{Fits, ofZ, toZ}
 use mir.ValLaws.{ofZ-toZ}
 use Rattle.field.specs.declared.Order.{Order}
 use Rattle.field.specs.declared.Order.the-variants.{Little, Big}
-use Rattle.field.specs.Numbers.{tabulate, bytesAt, padded, littleValue, lowFirst, numberOf, littleBytes, bytesOf, u16At, u32At, i16At, i32At}
-use Rattle.field.proofs.Tabulate.{length-tabulate}
+use Rattle.field.specs.Numbers.{tabulate, bytesAt, padded, littleValue, other, lowFirst, numberOf, littleBytes, bytesOf, u16At, u32At, i16At, i32At}
+use Rattle.field.proofs.Tabulate.{length-tabulate, bytesAt-part}
+use Rattle.field.proofs.Stores.{length-bytesOf}
 
 pub data Bytes : List ℕ → Type 0 where
   none : Bytes []
@@ -44,6 +46,11 @@ littleValue-below (one {a} {l} h p) = rw (pow-suc 256 (length l)) (omega (arith,
 lowFirst-twice : (order : Order) (l : List ℕ) → lowFirst order (lowFirst order l) ≡ l
 lowFirst-twice Little l = refl
 lowFirst-twice Big l = reverse-reverse l
+
+-- bytes turned round are the same number in the other order
+pub number-other : (order : Order) (l : List ℕ) → numberOf (other order) (reverse l) ≡ numberOf order l
+number-other Little l = ap littleValue (reverse-reverse l)
+number-other Big l = refl
 
 length-lowFirst : (order : Order) (l : List ℕ) → length (lowFirst order l) ≡ length l
 length-lowFirst Little l = refl
@@ -111,3 +118,13 @@ bytes-number order w n h =
     let len : length (lowFirst order (littleBytes w n)) ≡ w = length-lowFirst order (littleBytes w n) ∙ length-littleBytes w n in
     let all : padded w (lowFirst order (littleBytes w n)) ≡ lowFirst order (littleBytes w n) = rw len at (padded-all (lowFirst order (littleBytes w n))) in
     rw (all, lowFirst-twice) (littleValue-of w n h)
+
+-- a number of four bytes, read where it stands
+pub word-at : (order : Order) (a r : List ℕ) (n at : ℕ) → length a ≡ at → n < 4294967296 → u32At order (a ++ (bytesOf order 4 n ++ r)) at ≡ n
+unfolding u32At
+word-at order a r n at e h =
+    let s = a ++ (bytesOf order 4 n ++ r) in
+    let b = length-bytesOf order 4 n in
+    let room : at + 4 ≤ length s = rw (length-append, length-append) (omega arith) in
+    let part : bytesAt at 4 s ≡ bytesOf order 4 n = bytesAt-part at 4 s room ∙ rw (drop-at a (bytesOf order 4 n ++ r) at e) (take-at (bytesOf order 4 n) r 4 b) in
+    ap (numberOf order) part ∙ bytes-number order 4 n h

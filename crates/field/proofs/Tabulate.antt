@@ -42,6 +42,11 @@ module _ {ℓ} {A : Type ℓ} where
   tabulate-get f (suc n) zero d h = refl
   tabulate-get f (suc n) (suc i) d h = tabulate-get (λ k. f (suc k)) n i d (omega arith)
 
+  -- equal values give equal lists
+  pub tabulate-same : (f g : ℕ → A) (n : ℕ) → ((i : ℕ) → i < n → f i ≡ g i) → tabulate f n ≡ tabulate g n
+  tabulate-same f g zero h = refl
+  tabulate-same f g (suc n) h = λ j. h 0 (omega arith) j ∷ tabulate-same (λ i. f (suc i)) (λ i. g (suc i)) n (λ i b. h (suc i) (omega arith)) j
+
 -- within the list, a bytesAt is a part of it
 pub bytesAt-part : (at w : ℕ) (s : List ℕ) → at + w ≤ length s → bytesAt at w s ≡ take w (drop at s)
 bytesAt-part at w s h =

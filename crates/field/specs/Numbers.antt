@@ -29,6 +29,11 @@ abbrev pub littleValue : List ℕ → ℕ
 littleValue [] = 0
 littleValue (b ∷ bs) = b + 256 * littleValue bs
 
+-- the byte order that a swap leaves
+abbrev pub other : Order → Order
+other Little = Big
+other Big = Little
+
 -- bytes in a file's order, put with the least significant first; and back again
 abbrev pub lowFirst : Order → List ℕ → List ℕ
 lowFirst Little bs = bs

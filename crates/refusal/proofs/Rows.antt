@@ -49,3 +49,7 @@ verdict-append (r ∷ rs) qs =
 pub clear-append : {rs qs : List Row} → Clear rs → Clear qs → Clear (rs ++ qs)
 clear-append none d = d
 clear-append (one e c) d = one e (clear-append c d)
+
+pub clear-split : (rs : List Row) {qs : List Row} → Clear (rs ++ qs) → Clear rs × Clear qs
+clear-split [] c = (none, c)
+clear-split (r ∷ rs) (one e c) = let p = clear-split rs c in (one e (p .0), p .1)

@@ -78,6 +78,22 @@ runs-part before after w n l h =
     let own : length u ≡ n * w = length-turned w n (take (n * w) d) ∙ length-take-le (n * w) d (rw length-drop (omega arith)) in
     rw (runs-append before (run w n ∷ after) l, drop-at f (u ++ r) p (length-own-runs before l (omega arith))) (take-at u r (n * w) own)
 
+-- runs between others: their bytes in the result are the old ones, turned round by these runs alone
+pub runs-middle : (before middle after : List Run) (l : List ℕ) → spanOf before + spanOf middle ≤ length l
+    → take (spanOf middle) (drop (spanOf before) (turnRuns (before ++ (middle ++ after)) l)) ≡ turnRuns middle (take (spanOf middle) (drop (spanOf before) l))
+runs-middle before middle after l h =
+    let d : List ℕ = drop (spanOf before) l in
+    let f : List ℕ = turnRuns before (take (spanOf before) l) in
+    let m : List ℕ = turnRuns middle (take (spanOf middle) d) in
+    let r : List ℕ = turnRuns after (drop (spanOf middle) d) in
+    let room : spanOf middle ≤ length d = rw length-drop (omega arith) in
+    rw (
+      runs-append before (middle ++ after) l,
+      drop-at f (turnRuns (middle ++ after) d) (spanOf before) (length-own-runs before l (omega arith)),
+      runs-append middle after d,
+    )
+    (take-at m r (spanOf middle) (length-own-runs middle d room))
+
 -- a part of a part
 take-inside : (a k m : ℕ) (l : List ℕ) → a + k ≤ m → take k (drop a (take m l)) ≡ take k (drop a l)
 take-inside a k m l h =

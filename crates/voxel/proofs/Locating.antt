@@ -2,14 +2,14 @@
 use Prim.Native.Nat.{ℕ, _+_, _*_}
 use mathlib.Core.Path.{_≡_, refl, ap, sym, _∙_}
 use mathlib.Core.Bool.{Bool, true, false}
-use mathlib.Core.List.{List, [], _∷_, _++_}
+use mathlib.Core.List.{List}
 use native.Mathlib.Omega.{arith}
 use borrow.Author.Tests.{not-false}
 use Rattle.refusal.specs.declared.Refusal.{Refusal}
 use Rattle.refusal.specs.declared.Verdict.{Verdict}
 use Rattle.refusal.specs.declared.Verdict.the-variants.{Accepted, Refused}
-use Rattle.refusal.specs.Table.{Row, refusal, verdict}
-use Rattle.refusal.proofs.Rows.{Clear, none, one, then, accepted-clear, clear-accepted, verdict-append}
+use Rattle.refusal.specs.Table.{refusal, verdict}
+use Rattle.refusal.proofs.Rows.{Clear, none, one, then, accepted-clear, clear-accepted, verdict-append, clear-split}
 use Rattle.grid.specs.Grid.{within, rank}
 use Rattle.header.specs.declared.Header.{Header}
 use Rattle.rules.specs.declared.Image.{Image}
@@ -64,10 +64,6 @@ pub record Found (h : Header) (len : ℕ) (index : List ℕ) (e : Extent) : Type
 pub after-at : (v : Verdict) (l : Located) (e : Extent) → locatedAfter v l ≡ At e → (v ≡ Accepted) × (l ≡ At e)
 after-at Accepted l e d = (refl, d)
 after-at (Refused r) l e d = let z : _≡_ {A = ℕ} 0 1 = cc in absurd (omega arith)
-
-clear-split : (rs : List Row) {qs : List Row} → Clear (rs ++ qs) → Clear rs × Clear qs
-clear-split [] c = (none, c)
-clear-split (r ∷ rs) (one e c) = let p = clear-split rs c in (one e (p .0), p .1)
 
 pub found : (h : Header) (len : ℕ) (index : List ℕ) (e : Extent) → locatedIn h len index ≡ At e → Found h len index e
 unfolding locatedIn

@@ -5,7 +5,7 @@ use borrow.Author.Tests.{lt-ltb, le-ltb}
 use denote.Ref.{now}
 use Rattle.field.specs.declared.Order.the-variants.{Little}
 use Rattle.field.specs.Numbers.{bytesOf, padded}
-use Rattle.edit.proofs.Storing.{sets-put}
+use Rattle.buffer.proofs.Laws.{sets-put}
 use borrow.Author.Needs.{needs}
 use Rattle.edit.proofs.put_extender.Statement.{statement}
 use Rattle.edit.proofs.put_extender.Tie as tie

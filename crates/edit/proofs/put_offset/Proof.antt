@@ -6,7 +6,7 @@ use lib.Seq.{sets}
 use Rattle.field.specs.Numbers.{bytesOf}
 use Rattle.field.proofs.Stores.{length-bytesOf}
 use Rattle.offset.specs.Offset.{offsetBits}
-use Rattle.edit.proofs.Storing.{sets-put}
+use Rattle.buffer.proofs.Laws.{sets-put}
 use borrow.Author.Needs.{needs}
 use Rattle.edit.proofs.put_offset.Statement.{statement}
 use Rattle.edit.proofs.put_offset.Tie as tie
