@@ -1,6 +1,6 @@
 -- When a number of binary32 is finite: by comparison with the infinities, and by the exponent's field of its pattern. Assumes nothing.
 use mathlib.Core.Path.{_≡_, refl, sym, ap, _∙_, subst}
-use mathlib.Core.Bool.{Bool, true, false, not, cond, _&&_}
+use mathlib.Core.Bool.{Bool, true, false, not, cond, _&&_, and-eq-true-iff}
 use mathlib.Core.List.{List}
 use Prim.Native.Nat.{ℕ, zero, suc, _+_, _/_, _%_}
 use native.Mathlib.Omega.{arith}
@@ -50,14 +50,10 @@ finite-no-nan (fin s m z) e = refl
 no-nan : (b : ℕ) → finite (ofBits binary32 b) ≡ true → T (not (nanBits binary32 b))
 no-nan b h = subst (λ (x : Bool). T (not x)) (sym (nanBits-is binary32 b ∙ finite-no-nan (ofBits binary32 b) h)) tt
 
-pub both : (a b : Bool) → (a && b) ≡ true → (a ≡ true) × (b ≡ true)
-both true b e = (refl, e)
-both false b e = absurd (subst T (sym e) tt)
-
 pub finite-row : (row : List ℕ) → finiteRow row ≡ true → NoNan row
 unfolding finiteRow
 finite-row row e =
-    let three = both _ _ e in
-    let two = both _ _ (three .0) in
-    let one = both _ _ (two .0) in
+    let three = and-eq-true-iff _ _ .0 e in
+    let two = and-eq-true-iff _ _ .0 (three .0) in
+    let one = and-eq-true-iff _ _ .0 (two .0) in
     record { n0 = no-nan _ (one .0); n1 = no-nan _ (one .1); n2 = no-nan _ (two .1); n3 = no-nan _ (three .1) }

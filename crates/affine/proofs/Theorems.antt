@@ -1,7 +1,7 @@
 -- What holds of every position: its three values are finite; and in the case that 01-scope.md states they are the exact whole numbers. Both
 -- speak of `positionOf`, which is what `place` answers. Assumes nothing.
 use mathlib.Core.Path.{_≡_, refl, subst}
-use mathlib.Core.Bool.{Bool, true, false, cond, _&&_}
+use mathlib.Core.Bool.{Bool, true, false, cond, _&&_, and-eq-true-iff}
 use mathlib.Core.List.{List}
 use Prim.Native.Nat.{ℕ, _<_}
 use native.Mathlib.Omega.{arith}
@@ -14,7 +14,6 @@ use Rattle.affine.specs.declared.Placed.{Placed}
 use Rattle.affine.specs.declared.Placed.the-variants.{At, NoPosition}
 use Rattle.affine.specs.Method.{numberAt, rowOf, placedAt, placedIn, finiteRow, srowOf, positionOf}
 use Rattle.affine.specs.Whole.{IsWhole, WholeRow, exactOf, PlacedExactly}
-use Rattle.affine.proofs.Finite.{both}
 use Rattle.affine.proofs.Exact.{within, index-within, mul-within, add-within}
 
 -- ---- a whole row
@@ -74,6 +73,6 @@ answer-finite x y z i j k = go (finiteRow x && finiteRow y && finiteRow z)
 pub position-finite : (x y z : List ℕ) (i j k : ℕ) (p : Position) → positionOf x y z i j k ≡ At p
     → (finite (p .x) ≡ true) × (finite (p .y) ≡ true) × (finite (p .z) ≡ true)
 position-finite x y z i j k p e =
-    let two = both _ _ (subst FiniteAnswer e (answer-finite x y z i j k)) in
-    let one = both _ _ (two .0) in
+    let two = and-eq-true-iff _ _ .0 (subst FiniteAnswer e (answer-finite x y z i j k)) in
+    let one = and-eq-true-iff _ _ .0 (two .0) in
     (one .0, one .1, two .1)

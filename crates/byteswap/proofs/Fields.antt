@@ -1,45 +1,28 @@
 -- The header of a swapped file, field by field: in the other byte order each number is what it was, and text stays. So the file's
 -- byte order is the other one (`order-other`), its kind and all that the rules judge are the same, and so is its record (`header-same`).
-use Prim.Native.Nat.{ℕ, _+_, _≤_, _<_}
-use mathlib.Core.Path.{_≡_, refl, sym, ap, _∙_}
-use mathlib.Core.Bool.{Bool, true, false, cond, _&&_, _||_}
+use Prim.Native.Nat.{ℕ, _≤_}
+use mathlib.Core.Path.{_≡_, refl, ap, _∙_}
+use mathlib.Core.Bool.{Bool, true, false, cond, _||_}
 use mathlib.Core.List.{List, _++_}
-use native.Mathlib.Omega.{arith}
-use borrow.Author.Tests.{leb-true, lt-leb, le-leb}
-use lib.Dec.{leb}
-use lib.ListN.{length, getD}
+use lib.ListN.{length}
 use Rattle.field.specs.declared.Order.{Order}
 use Rattle.field.specs.declared.Order.the-variants.{Little, Big}
-use Rattle.field.specs.Numbers.{other, u16At, i32At}
+use Rattle.field.specs.Numbers.{other, i32At}
 use Rattle.datatype.specs.Datatypes.{datatypeOf}
-use Rattle.datatype.proofs.Bits.{both}
 use Rattle.extension.specs.declared.Span.{Span}
 use Rattle.header.specs.declared.Kind.{Kind}
 use Rattle.header.specs.declared.Kind.the-variants.{Single, Pair}
 use Rattle.header.specs.Fields.{headerOf, keyOf, intentOf, scaleOf, displayOf, quaternOf, rowsOf}
 use Rattle.encode.specs.Encode.{magicOf}
 use Rattle.rules.specs.Rules.{oneToSeven}
-use Rattle.rules.proofs.Seven.{seven-bits}
 use Rattle.reader.specs.File.{holdsIn, orderOf, sameBytes, hasMagic, kindOf, shapeIn}
+use Rattle.reader.proofs.Theorems.{never-both}
 use Rattle.units.specs.Runs.{Run, turnRuns, spanOf, headerRuns}
 use Rattle.byteswap.specs.Swap.{unitOf, unitIn}
 use Rattle.byteswap.specs.Other.{inOtherOrder}
 use Rattle.byteswap.proofs.Places.{u32s-same, i16s-same, u32-same, i32-same, i16-same, text-same, byte-same}
 
--- ---- dim[0] is in 1..7 in one byte order at most
-
-seven-facts : (n : ℕ) → (leb 1 n && leb n 7) ≡ true → (1 ≤ n) × (n ≤ 7)
-seven-facts n e = let p = both (leb 1 n) (leb n 7) e in (leb-true 1 n (p .0), leb-true n 7 (p .1))
-
-one-order : (s : List ℕ) → holdsIn Little s ≡ true → holdsIn Big s ≡ false
-unfolding holdsIn u16At
-one-order s e =
-    let a : ℕ = getD s 40 0 in
-    let b : ℕ = getD s 41 0 in
-    let low = seven-facts (u16At Little s 40) (seven-bits (u16At Little s 40) ∙ e) in
-    let high : 7 < u16At Big s 40 = omega (arith, low .0, low .1) in
-    sym (seven-bits (u16At Big s 40)) ∙ rw (le-leb 1 (u16At Big s 40) (omega arith), lt-leb (u16At Big s 40) 7 high)
-
+-- dim[0] is in 1..7 in one byte order alone; where the two tests are exchanged, that is the other one
 order-by : (a b : Bool) → (a ≡ true → b ≡ false) → (a || b) ≡ true → cond b Little Big ≡ other (cond a Little Big)
 order-by true b h e = rw (h refl)
 order-by false b h e = rw e
@@ -67,7 +50,7 @@ module _ (rest : List Run) (s : List ℕ) (room : spanOf (headerRuns ++ rest) �
 
   pub order-other : (holdsIn Little s || holdsIn Big s) ≡ true → orderOf after ≡ other (orderOf s)
   unfolding orderOf
-  order-other h = ap (λ (b : Bool). cond b Little Big) (holds-same Big) ∙ order-by (holdsIn Little s) (holdsIn Big s) (one-order s) h
+  order-other h = ap (λ (b : Bool). cond b Little Big) (holds-same Big) ∙ order-by (holdsIn Little s) (holdsIn Big s) (never-both s) h
 
   module _ (o : Order) where
     pub size-same : i32At (other o) after 0 ≡ i32At o s 0

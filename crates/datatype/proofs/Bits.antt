@@ -1,7 +1,7 @@
 -- A signed code is looked up by its bits: in two's complement no negative number has the bits of a code of the table.
 use Prim.Native.Nat.{ℕ, suc, _-_, _<_, _^_}
 use mathlib.Core.Path.{_≡_, refl, ap, sym, _∙_}
-use mathlib.Core.Bool.{Bool, true, false, cond, _&&_}
+use mathlib.Core.Bool.{Bool, true, cond, _&&_, and-eq-true-iff}
 use mathlib.Core.List.{List, [], _∷_}
 use native.Mathlib.Omega.{arith}
 use borrow.Author.Tests.{ne-eqb, ltb-true}
@@ -29,14 +29,10 @@ abbrev small : List Row → Bool
 small [] = true
 small (r ∷ rs) = ltb (r .code) 32768 && small rs
 
-pub both : (a b : Bool) → (a && b) ≡ true → (a ≡ true) × (b ≡ true)
-both true b e = (refl, e)
-both false b e = let z : _≡_ {A = ℕ} 0 1 = cc in absurd (omega arith)
-
 lookup-bits : (z : ℤ) (rs : List Row) → SFits w16 z → small rs ≡ true → lookup z rs ≡ byBits (ofZ w16 z) rs
 lookup-bits z [] f h = refl
 lookup-bits z (r ∷ rs) f h =
-    let p = both (ltb (r .code) 32768) (small rs) h in
+    let p = and-eq-true-iff (ltb (r .code) 32768) (small rs) .0 h in
     rw (number-bits w16 z (r .code) f (ltb-true (r .code) 32768 (p .0)), lookup-bits z rs f (p .1))
 
 -- a code whose bits are n has the format that n has in the table

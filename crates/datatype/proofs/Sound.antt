@@ -2,7 +2,7 @@
 -- bits and divide into swap units.
 use Prim.Native.Nat.{ℕ, _*_, _%_, _≤_}
 use mathlib.Core.Path.{_≡_, refl, ap, sym, _∙_}
-use mathlib.Core.Bool.{Bool, true, false, cond, _&&_}
+use mathlib.Core.Bool.{Bool, true, false, cond, _&&_, and-eq-true-iff}
 use mathlib.Core.List.{List, [], _∷_}
 use native.Mathlib.Omega.{arith}
 use borrow.Author.Tests.{leb-true, eqb-true}
@@ -12,7 +12,6 @@ use Rattle.datatype.specs.Datatypes.{Row, datatypes, datatypeOf, isNumbe
 use Rattle.datatype.specs.declared.Format.{Format}
 use Rattle.datatype.specs.declared.Datatype.{Datatype}
 use Rattle.datatype.specs.declared.Datatype.the-variants.{Known, Unknown}
-use Rattle.datatype.proofs.Bits.{both}
 
 pub record Sound (f : Format) : Type 0 where
   pub some : 1 ≤ f .bytes
@@ -34,11 +33,11 @@ allSound (r ∷ rs) = sound r && allSound rs
 sound-row : (r : Row) → sound r ≡ true → Sound (formatOf r)
 sound-row r h =
     let f = formatOf r in
-    let p1 = both (leb 1 (f .bytes)) (leb (f .bytes) 32 && (eqb (r .bits) (f .bytes * 8) && (leb 1 (f .unit) && (leb (f .unit) 16 && eqb (f .bytes % f .unit) 0)))) h in
-    let p2 = both (leb (f .bytes) 32) (eqb (r .bits) (f .bytes * 8) && (leb 1 (f .unit) && (leb (f .unit) 16 && eqb (f .bytes % f .unit) 0))) (p1 .1) in
-    let p3 = both (eqb (r .bits) (f .bytes * 8)) (leb 1 (f .unit) && (leb (f .unit) 16 && eqb (f .bytes % f .unit) 0)) (p2 .1) in
-    let p4 = both (leb 1 (f .unit)) (leb (f .unit) 16 && eqb (f .bytes % f .unit) 0) (p3 .1) in
-    let p5 = both (leb (f .unit) 16) (eqb (f .bytes % f .unit) 0) (p4 .1) in
+    let p1 = and-eq-true-iff (leb 1 (f .bytes)) (leb (f .bytes) 32 && (eqb (r .bits) (f .bytes * 8) && (leb 1 (f .unit) && (leb (f .unit) 16 && eqb (f .bytes % f .unit) 0)))) .0 h in
+    let p2 = and-eq-true-iff (leb (f .bytes) 32) (eqb (r .bits) (f .bytes * 8) && (leb 1 (f .unit) && (leb (f .unit) 16 && eqb (f .bytes % f .unit) 0))) .0 (p1 .1) in
+    let p3 = and-eq-true-iff (eqb (r .bits) (f .bytes * 8)) (leb 1 (f .unit) && (leb (f .unit) 16 && eqb (f .bytes % f .unit) 0)) .0 (p2 .1) in
+    let p4 = and-eq-true-iff (leb 1 (f .unit)) (leb (f .unit) 16 && eqb (f .bytes % f .unit) 0) .0 (p3 .1) in
+    let p5 = and-eq-true-iff (leb (f .unit) 16) (eqb (f .bytes % f .unit) 0) .0 (p4 .1) in
     record {
       some = leb-true 1 (f .bytes) (p1 .0);
       most = leb-true (f .bytes) 32 (p2 .0);
@@ -55,7 +54,7 @@ pick-known false f g d e s rest = rest e
 rows-sound : (z : ℤ) (f : Format) (rs : List Row) → allSound rs ≡ true → lookup z rs ≡ Known f → Sound f
 rows-sound z f [] h e = let q : _≡_ {A = ℕ} 0 1 = cc in absurd (omega arith)
 rows-sound z f (r ∷ rs) h e =
-    let p = both (sound r) (allSound rs) h in
+    let p = and-eq-true-iff (sound r) (allSound rs) .0 h in
     pick-known (isNumber z (r .code)) f (formatOf r) (lookup z rs) e (sound-row r (p .0)) (λ g. rows-sound z f rs (p .1) g)
 
 pub known-sound : (z : ℤ) (f : Format) → datatypeOf z ≡ Known f → Sound f

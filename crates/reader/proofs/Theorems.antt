@@ -1,7 +1,7 @@
 -- The reader's theorems, over the definitions that its promise cites (docs/PROMISES.md names each).
 use Prim.Native.Nat.{ℕ, _+_, _*_, _≤_, _<_}
 use mathlib.Core.Path.{_≡_, refl, ap, sym, _∙_}
-use mathlib.Core.Bool.{Bool, true, false, not, cond, _&&_, _||_}
+use mathlib.Core.Bool.{Bool, true, false, cond, _&&_, _||_, and-false, and-eq-true-iff}
 use mathlib.Core.List.{List, [], _∷_}
 use native.Mathlib.Omega.{arith}
 use native.Mathlib.Nat.{add-zero}
@@ -13,7 +13,6 @@ use Rattle.field.specs.declared.Order.the-variants.{Little, Big}
 use Rattle.field.specs.Numbers.{bytesAt, u16At, i32At}
 use Rattle.refusal.proofs.Rows.{Clear, one}
 use Rattle.datatype.specs.Datatypes.{isNumber}
-use Rattle.datatype.proofs.Bits.{both}
 use Rattle.extension.specs.Walk.{firstPlace, listed, extensionsIn}
 use Rattle.extension.specs.Fills.{Fills}
 use Rattle.extension.proofs.Fills.{extensions-fill}
@@ -31,14 +30,10 @@ use Rattle.reader.proofs.Accepted.{file-clear, file-lists, accepted-hea
 -- "Never both: a value 1..7 reads at least 256 in the other order."
 small-pair : (a b : ℕ) → (leb 1 (a + 256 * (b + 256 * 0)) && leb (a + 256 * (b + 256 * 0)) 7) ≡ true → (leb 1 (b + 256 * (a + 256 * 0)) && leb (b + 256 * (a + 256 * 0)) 7) ≡ false
 small-pair a b e =
-    let p = both (leb 1 (a + 256 * (b + 256 * 0))) (leb (a + 256 * (b + 256 * 0)) 7) e in
+    let p = and-eq-true-iff (leb 1 (a + 256 * (b + 256 * 0))) (leb (a + 256 * (b + 256 * 0)) 7) .0 e in
     let low : 1 ≤ a + 256 * (b + 256 * 0) = leb-true _ _ (p .0) in
     let high : a + 256 * (b + 256 * 0) ≤ 7 = leb-true _ _ (p .1) in
     rw (lt-leb (b + 256 * (a + 256 * 0)) 7 (omega arith)) (and-false (leb 1 (b + 256 * (a + 256 * 0))))
-  where
-    and-false : (t : Bool) → (t && false) ≡ false
-    and-false true = refl
-    and-false false = refl
 
 pub never-both : (s : List ℕ) → holdsIn Little s ≡ true → holdsIn Big s ≡ false
 unfolding holdsIn u16At
@@ -54,7 +49,7 @@ same-is [] [] e = refl
 same-is [] (b ∷ m) e = let z : _≡_ {A = ℕ} 0 1 = cc in absurd (omega arith)
 same-is (a ∷ l) [] e = let z : _≡_ {A = ℕ} 0 1 = cc in absurd (omega arith)
 same-is (a ∷ l) (b ∷ m) e =
-    let p = both (eqb a b) (sameBytes l m) e in
+    let p = and-eq-true-iff (eqb a b) (sameBytes l m) .0 e in
     let h : a ≡ b = eqb-true a b (p .0) in
     let t : l ≡ m = same-is l m (p .1) in
     cc

@@ -1,7 +1,7 @@
 -- Rule 2's test of dim[0], by its bits and by the number of axes; and what it decides of a record.
 use Prim.Native.Nat.{ℕ, _≤_}
 use mathlib.Core.Path.{_≡_, refl}
-use mathlib.Core.Bool.{Bool, true, false, _&&_}
+use mathlib.Core.Bool.{Bool, true, false, _&&_, and-false}
 use native.Mathlib.Omega.{arith}
 use borrow.Author.Tests.{le-ltb, lt-leb, ltb-false}
 use lib.Dec.{leb, ltb}
@@ -16,10 +16,6 @@ use Rattle.rules.specs.Rules.{oneToSeven, judgedOf, shapeOfRecord, recor
 
 seven-above : (n : ℕ) → 32768 ≤ n → (leb 1 n && leb n 7) ≡ oneToSeven (toZ w16 n)
 seven-above n h = rw (le-ltb n 32768 h, lt-leb n 7 (omega arith)) (and-false (leb 1 n))
-  where
-    and-false : (a : Bool) → (a && false) ≡ false
-    and-false true = refl
-    and-false false = refl
 
 pub seven-bits : (n : ℕ) → (leb 1 n && leb n 7) ≡ oneToSeven (toZ w16 n)
 seven-bits n = by (ltb n 32768) refl

@@ -1,10 +1,10 @@
 -- `place` meets its contract: the test of its branch is that of the definition, and a finite row has no NaN.
 use borrow.Author.Needs.{needs}
 use mathlib.Core.Path.{_≡_, sym, ap, _∙_}
-use mathlib.Core.Bool.{_&&_}
+use mathlib.Core.Bool.{_&&_, and-eq-true-iff}
 use Rattle.affine.specs.declared.Srow.{Srow}
 use Rattle.affine.specs.Method.{finiteRow, placedIn, positionOf}
-use Rattle.affine.proofs.Finite.{both, finite-row}
+use Rattle.affine.proofs.Finite.{finite-row}
 use Rattle.affine.proofs.place.Statement.{statement}
 use Rattle.affine.proofs.place.Tie as tie
 
@@ -23,8 +23,8 @@ tested c = λ i. c .before .before .row-is-finite .ensures i && c .before .row-i
 
 srow-of-requires : tie.Need-srow-of-requires
 srow-of-requires c κs =
-    let two = both _ _ (sym (tested (c .before)) ∙ c .if1 .taken) in
-    let one = both _ _ (two .0) in
+    let two = and-eq-true-iff _ _ .0 (sym (tested (c .before)) ∙ c .if1 .taken) in
+    let one = and-eq-true-iff _ _ .0 (two .0) in
     (finite-row _ (one .0), finite-row _ (one .1), finite-row _ (two .1))
 
 placed-in-requires : tie.Need-placed-in-requires
