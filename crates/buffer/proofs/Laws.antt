@@ -5,7 +5,7 @@ use mathlib.Core.List.{List, [], _∷_, _++_, append-assoc, append-nil}
 use Prim.Native.Nat.{ℕ, zero, suc, _+_, _-_, _≤_, _<_}
 use native.Mathlib.Nat.{zero-sub, suc-sub-suc, sub-zero, add-zero, sub-self, add-sub-cancel-left}
 use native.Mathlib.Omega.{arith}
-use lib.ListN.{length, getD, take, drop, length-take, length-drop, length-append, take-append-drop, List·getD-append}
+use lib.ListN.{length, getD, take, drop, length-take, length-drop, length-append, take-append-drop}
 use lib.Seq.{length-take-le, take-append-le, drop-append-le, take-append-add, drop-append-add, take-at, drop-at, take-take, drop-drop, take-nil, getD-take, getD-drop, sets, sets-eq}
 use Rattle.buffer.specs.Put.{put}
 
@@ -87,9 +87,6 @@ module _ (l : List ℕ) (at : ℕ) (e : List ℕ) where
   pub getD-put-before : (i : ℕ) → i < at → at ≤ length l → getD (put l at e) i 0 ≡ getD l i 0
   getD-put-before i h hl = rw (← getD-take at (put l at e) i 0 h, take-put at (omega arith) hl, getD-take at l i 0 h)
 
-  pub getD-put-in : (i : ℕ) → i < length e → at ≤ length l → getD (put l at e) (at + i) 0 ≡ getD e i 0
-  getD-put-in i h hl = rw (← getD-drop at (put l at e) i 0, drop-put-at hl) (List·getD-append e (drop (at + length e) l) 0 i h)
-
   pub getD-put-after : (i : ℕ) → at + length e ≤ i → at ≤ length l → getD (put l at e) i 0 ≡ getD l i 0
   getD-put-after i h hl =
       let n : ℕ = at + length e in
@@ -117,15 +114,3 @@ module _ (l : List ℕ) (at : ℕ) (e : List ℕ) where
   pub put-append : (r : List ℕ) → at + length e ≤ length l → put (l ++ r) at e ≡ put l at e ++ r
   unfolding put
   put-append r h = rw (take-append-le at l r (omega arith), drop-append-le (at + length e) l r h) (simp append-assoc)
-
--- two writes that do not meet, in either order
-pub put-apart : (l : List ℕ) (at : ℕ) (e : List ℕ) (at' : ℕ) (g : List ℕ) → at + length e ≤ at' → at' ≤ length l
-    → put (put l at e) at' g ≡ put (put l at' g) at e
-unfolding put
-put-apart l at e at' g h hl =
-    let k : ℕ = at + length e in
-    let rest : List ℕ = g ++ drop (at' + length g) l in
-    let n = length-take-le at' l hl in
-    let d : drop k (put l at' g) ≡ take (at' - k) (drop k l) ++ rest = drop-append-le k (take at' l) rest (omega arith) ∙ rw drop-take in
-    rw (take-put-past l at e at' h (omega arith), drop-put l at e (at' + length g) (omega arith) (omega arith), take-put l at' g at (omega arith) hl, d)
-    (simp append-assoc)

@@ -9,10 +9,6 @@ use Rattle.buffer.specs.Put.{put}
 use Rattle.buffer.specs.Settled.{replaced, settled}
 use Rattle.buffer.proofs.Laws.{drop-take, length-put, put-append}
 
-pub length-replaced : (f : List ℕ) (at old : ℕ) (e : List ℕ) → at + old ≤ length f → length (replaced f at old e) ≡ length f - old + length e
-unfolding replaced
-length-replaced f at old e h = simp (length-append, length-take, length-drop) (omega arith)
-
 -- the file after an edit is the buffer up to the file's new length
 pub take-settled : (l : List ℕ) (len : ℕ) (g : List ℕ) → take (length g) (settled l len g) ≡ g
 unfolding settled

@@ -2,7 +2,7 @@
 -- reading is the old one in the other byte order (`reading-swapped`).
 use Prim.Native.Nat.{ℕ, _+_, _-_, _*_, _≤_, _<_}
 use mathlib.Core.Path.{_≡_, refl, sym, ap, _∙_}
-use mathlib.Core.Bool.{or-comm, Bool, true, false, not, _||_}
+use mathlib.Core.Bool.{or-comm, true, false, not, _||_}
 use mathlib.Core.List.{List, [], _∷_, _++_}
 use native.Mathlib.Omega.{arith}
 use native.Mathlib.Nat.{mul-one}

@@ -1,17 +1,17 @@
 -- What every format of the table has in common, by one test over the whole table: a voxel takes 1 to 32 bytes, which are its
 -- bits and divide into swap units.
 use Prim.Native.Nat.{ℕ, _*_, _%_, _≤_}
-use mathlib.Core.Path.{_≡_, refl, ap, sym, _∙_}
+use mathlib.Core.Path.{_≡_, refl, ap}
 use mathlib.Core.Bool.{Bool, true, false, cond, _&&_, and-eq-true-iff}
 use mathlib.Core.List.{List, [], _∷_}
 use native.Mathlib.Omega.{arith}
 use borrow.Author.Tests.{leb-true, eqb-true}
 use lib.Dec.{eqb, leb}
-use lib.IntN.{ℤ, pos, natAbs}
+use lib.IntN.{ℤ, pos}
 use Rattle.datatype.specs.Datatypes.{Row, datatypes, datatypeOf, isNumber, formatOf, lookup}
 use Rattle.datatype.specs.declared.Format.{Format}
 use Rattle.datatype.specs.declared.Datatype.{Datatype}
-use Rattle.datatype.specs.declared.Datatype.the-variants.{Known, Unknown}
+use Rattle.datatype.specs.declared.Datatype.the-variants.{Known}
 
 pub record Sound (f : Format) : Type 0 where
   pub some : 1 ≤ f .bytes

@@ -2,7 +2,7 @@
 -- these are." One statement for append, replacement and removal, for a single file and a pair, in either byte order.
 use Prim.Native.Nat.{ℕ, _+_, _*_, _/_}
 use mathlib.Core.Path.{_≡_, refl, ap, sym, subst, _∙_}
-use mathlib.Core.Bool.{Bool, not}
+use mathlib.Core.Bool.{not}
 use mathlib.Core.List.{List, [], _∷_}
 use native.Mathlib.Omega.{arith}
 use lib.IntN.{ℤ}
@@ -10,7 +10,6 @@ use lib.ListN.{length, take, drop}
 use lib.Seq.{drop-drop}
 use mir.Syntax.{w32}
 use mir.Val.{SFits}
-use Rattle.refusal.specs.declared.Refusal.{Refusal}
 use Rattle.refusal.specs.declared.Verdict.{Verdict}
 use Rattle.refusal.specs.declared.Verdict.the-variants.{Accepted, Refused}
 use Rattle.refusal.specs.Table.{verdict}
@@ -23,15 +22,15 @@ use Rattle.rules.specs.Rules.{axisCount, imageOf, shapeOfRecord}
 use Rattle.reader.specs.File.{imageCut, holder}
 use Rattle.reader.specs.Reading.{readingOf, IsAccepted}
 use Rattle.voxel.specs.declared.Located.{Located}
-use Rattle.voxel.specs.declared.Located.the-variants.{At, Unlocated}
-use Rattle.voxel.specs.Voxel.{lengthsOf, voxelBytes, imageRows, extentOf, locatedAfter, locatedOf, partOf, voxelOf}
+use Rattle.voxel.specs.declared.Located.the-variants.{At}
+use Rattle.voxel.specs.Voxel.{lengthsOf, voxelBytes, imageRows, locatedAfter, locatedOf, partOf, voxelOf}
 use Rattle.voxel.proofs.Accepted.{record-image}
 use Rattle.voxel.proofs.Theorems.{accepted-located}
 use Rattle.edit.specs.declared.Change.{Change}
 use Rattle.edit.specs.declared.Edited.the-variants.{Done}
-use Rattle.edit.specs.Fresh.{endFor, extensionList, editedList}
+use Rattle.edit.specs.Fresh.{editedList}
 use Rattle.edit.specs.Outcome.{outcomeOf, answerOf, bufferAfter}
-use Rattle.edit.proofs.Theorems.{Renewed, Moved, Stayed, demand-three}
+use Rattle.edit.proofs.Theorems.{Renewed, demand-three}
 use Rattle.edit_voxels.specs.Same.{SameAnswer, refused, found}
 
 -- the parts of two answers in the buffers that hold the voxels

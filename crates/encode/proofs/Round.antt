@@ -1,13 +1,10 @@
 -- The round trip (01-scope.md, demand 2: "Writing the record gives the same 348 bytes"): a file's record, written back in the
 -- file's own byte order and kind, is the file's first 348 bytes, where it states 348 and the kind's magic.
-use Prim.Native.Nat.{ℕ, _+_, _≤_, _<_}
-use mathlib.Core.Path.{_≡_, refl, ap, _∙_, sym}
-use mathlib.Core.List.{List, _++_}
-use native.Mathlib.Omega.{arith}
-use lib.IntN.{ℤ, pos}
+use Prim.Native.Nat.{ℕ, _≤_, _<_}
+use mathlib.Core.Path.{_≡_}
+use mathlib.Core.List.{List}
+use lib.IntN.{pos}
 use lib.ListN.{length, getD, take}
-use mir.Syntax.{w32}
-use mir.Val.{ofZ}
 use Rattle.field.specs.declared.Order.{Order}
 use Rattle.field.specs.Numbers.{bytesAt, bytesOf, padded, i32At, i16sAt, u32sBytes, i16sBytes}
 use Rattle.field.proofs.Inverse.{u32-back, i32-back, i16-back}

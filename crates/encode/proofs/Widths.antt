@@ -1,5 +1,4 @@
 -- How many bytes each group takes: 348 in all.
-use Prim.Native.Nat.{ℕ}
 use mathlib.Core.Path.{_≡_, refl}
 use mathlib.Core.List.{List}
 use lib.IntN.{ℤ}

@@ -5,7 +5,7 @@ ghost use Prim.Native.Nat.{_<_};
 ghost use lib.ListN.{getD};
 ghost use lib.Seq.{sets};
 ghost use Rattle.field.specs.Numbers.{padded, u32sBytes, i16sBytes};
-ghost use Rattle.encode.specs.Encode.{magicOf, encode, keyBytes, dimBytes, intentBytes, scaleBytes, displayBytes, quaternBytes, rowsBytes};
+ghost use Rattle.encode.specs.Encode.{magicOf, encode, keyBytes, intentBytes, scaleBytes, displayBytes, quaternBytes, rowsBytes};
 use field::Order;
 use header::Display;
 use header::Header;

@@ -1,19 +1,19 @@
 -- Numbers and bytes are inverse both ways, once over the width and the byte order: a number read from bytes and written back is
 -- those bytes (`number-back`), and a number written and read back is that number (`bytes-number`).
 use Prim.Native.Nat.{ℕ, zero, suc, _+_, _*_, _/_, _%_, _^_, _≤_, _<_}
-use mathlib.Core.Path.{_≡_, refl, ap, _∙_, sym}
+use mathlib.Core.Path.{_≡_, refl, ap, _∙_}
 use mathlib.Core.List.{List, [], _∷_, _++_, reverse, reverseAux, reverse-reverse}
 use native.Mathlib.Omega.{arith}
 use native.Mathlib.Nat.{pow-suc}
 use lib.ListN.{length, getD, length-append, length-reverse}
 use lib.Seq.{take-at, drop-at}
 use mir.Syntax.{w16, w32}
-use mir.Val.{Fits, ofZ, toZ}
+use mir.Val.{Fits, ofZ}
 use mir.ValLaws.{ofZ-toZ}
 use Rattle.field.specs.declared.Order.{Order}
 use Rattle.field.specs.declared.Order.the-variants.{Little, Big}
 use Rattle.field.specs.Numbers.{tabulate, bytesAt, padded, littleValue, other, lowFirst, numberOf, littleBytes, bytesOf, u16At, u32At, i16At, i32At}
-use Rattle.field.proofs.Tabulate.{length-tabulate, bytesAt-part}
+use Rattle.field.proofs.Tabulate.{bytesAt-part}
 use Rattle.field.proofs.Stores.{length-bytesOf}
 
 pub data Bytes : List ℕ → Type 0 where

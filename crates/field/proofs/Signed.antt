@@ -1,15 +1,14 @@
 -- A signed number and its bits, at any width: what a cast of a sign's half needs.
-use Prim.Native.Nat.{ℕ, zero, suc, _+_, _-_, _^_, _≤_, _<_}
-use mathlib.Core.Path.{_≡_, refl, ap, _∙_, sym}
-use mathlib.Core.Bool.{Bool, true, false}
+use Prim.Native.Nat.{ℕ, suc, _-_, _^_, _<_}
+use mathlib.Core.Path.{_≡_}
+use mathlib.Core.Bool.{true, false}
 use native.Mathlib.Omega.{arith}
 use borrow.Author.Tests.{ltb-true}
-use lib.IntN.{ℤ, pos, negsuc, natAbs}
-use lib.Signed.{ltZ, nonNeg}
-use lib.Dec.{T}
+use lib.IntN.{ℤ, pos, negsuc}
+use lib.Signed.{ltZ}
 use mir.Syntax.{Width}
-use mir.Val.{Fits, SFits, bits, hbits, ofZ, toZ}
-use mir.ValLaws.{toZ-pos, toZ-ofZ, half-full, ofZ-fits}
+use mir.Val.{SFits, bits, ofZ, toZ}
+use mir.ValLaws.{toZ-pos, half-full}
 
 -- a negative number's bits turned round are those of a number that is not negative
 pub flipped : (w : Width) (z : ℤ) → SFits w z → ltZ z (pos 0) ≡ true → toZ w ((2 ^ bits w - 1) - ofZ w z) ≡ pos ((2 ^ bits w - 1) - ofZ w z)

@@ -11,7 +11,7 @@ use lib.ListN.{length, getD, replicate, set, length-append, List·getD-append}
 use lib.Seq.{getD-at, set-at, append-snoc}
 use lib.IntN.{ℤ}
 use lib.Dec.{eqb·suc-zero}
-use borrow.Author.Tests.{ltb-false, le-ltb}
+use borrow.Author.Tests.{ltb-false}
 use Rattle.grid.specs.Grid.{voxels, within, rank}
 use Rattle.grid.specs.Axes.{dimAt, belowOne, firstBelow, extent, axes, imageBytes, imageLimit, sevenAxes}
 use Rattle.grid.proofs.Entry.{below-extent}
@@ -106,17 +106,6 @@ axes-at dim (suc n) k h =
     (λ last. rw last (getD-at (axes dim n) e [] 0 n size))
     (λ l. List·getD-append (axes dim n) (e ∷ []) 0 k (omega arith) ∙ axes-at dim n k l)
     (eq-or-lt-of-le (le-of-suc-le-suc h))
-
--- no entry is below 1 exactly where no axis is empty
-pub axes-positive : (dim : List ℤ) (n : ℕ) → (firstBelow dim n ≡ 0) ↔ ((k : ℕ) → k < n → 1 ≤ getD (axes dim n) k 0)
-axes-positive dim n = (
-  λ h k l. rw (axes-at dim n k l) (ltb-false (extent (dimAt dim (suc k))) 1 (sym (below-extent (dimAt dim (suc k))) ∙ first-none dim n .0 h (suc k) (omega arith) l)),
-  λ h. first-none dim n .1 (by h),
-)
-  where
-    by : ((k : ℕ) → k < n → 1 ≤ getD (axes dim n) k 0) → NoneBelow dim n
-    by h zero l m = let no : ⊥ = omega arith in absurd no
-    by h (suc k) l m = below-extent (dimAt dim (suc k)) ∙ le-ltb (extent (dimAt dim (suc k))) 1 (rw (axes-at dim n k m) at (h k m))
 
 -- ---- the voxels and the image's bytes
 

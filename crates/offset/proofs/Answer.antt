@@ -3,7 +3,7 @@ use mathlib.Core.Path.{_≡_, refl, subst}
 use Prim.Native.Nat.{ℕ, _≤_, _<_}
 use mathlib.Core.Bool.{Bool, true, false, cond}
 use lib.Dec.{leb}
-use borrow.Author.Tests.{le-leb, lt-leb, leb-true, leb-false}
+use borrow.Author.Tests.{le-leb, lt-leb, leb-false}
 use Rattle.offset.specs.declared.Offset.{Offset}
 use Rattle.offset.specs.declared.Offset.the-variants.{Whole, NotWhole, TooLarge}
 use Rattle.offset.specs.Offset.{offsetLimit, isWhole, wholeOf, offsetOf}
@@ -44,9 +44,6 @@ whole-is-whole bits n e = says bits (Whole n) e .0
 
 pub whole-value : (bits n : ℕ) → offsetOf bits ≡ Whole n → wholeOf bits ≡ n
 whole-value bits n e = says bits (Whole n) e .2
-
-pub whole-limit : (bits n : ℕ) → offsetOf bits ≡ Whole n → n ≤ offsetLimit
-whole-limit bits n e = subst (λ (v : ℕ). v ≤ offsetLimit) (whole-value bits n e) (leb-true (wholeOf bits) offsetLimit (says bits (Whole n) e .1))
 
 pub not-whole-is-not : (bits : ℕ) → offsetOf bits ≡ NotWhole → isWhole bits ≡ false
 not-whole-is-not bits e = says bits NotWhole e

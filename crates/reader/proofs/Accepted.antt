@@ -1,16 +1,13 @@
 -- What is known of a file that reading accepts: none of the rules' rows holds and the walk lists its extensions, and its record
 -- passes the rules of a record.
 use Prim.Native.Nat.{ℕ}
-use mathlib.Core.Path.{_≡_, refl, sym, subst, _∙_}
-use mathlib.Core.Bool.{Bool, true, false, not, cond, _||_}
+use mathlib.Core.Path.{_≡_, refl, sym, subst}
+use mathlib.Core.Bool.{Bool, true, false, not, _||_}
 use mathlib.Core.List.{List, _∷_}
 use mathlib.Core.Logic.{_↔_}
 use native.Mathlib.Omega.{arith}
-use borrow.Author.Tests.{not-false}
 use lib.Dec.{ltb}
 use lib.ListN.{length}
-use Rattle.field.specs.declared.Order.the-variants.{Little, Big}
-use Rattle.refusal.specs.declared.Refusal.{Refusal}
 use Rattle.refusal.specs.declared.Verdict.{Verdict}
 use Rattle.refusal.specs.declared.Verdict.the-variants.{Accepted, Refused}
 use Rattle.refusal.specs.Table.{Row, row, verdict}
@@ -25,7 +22,7 @@ use Rattle.header.specs.declared.Kind.the-variants.{Single, Pair}
 use Rattle.header.specs.Fields.{headerOf}
 use Rattle.rules.specs.declared.Shape.{Shape}
 use Rattle.rules.specs.Rules.{oneToSeven, offsetOutside, fieldRows, imageOf, shapeOfRecord, recordRows}
-use Rattle.reader.specs.File.{holdsIn, orderOf, shapeIn, shapeOf, kindOf, cutShort, fileRows, layoutOf, extensionsOf, unlessRefused, judgement}
+use Rattle.reader.specs.File.{holdsIn, orderOf, shapeIn, shapeOf, kindOf, fileRows, layoutOf, extensionsOf, unlessRefused, judgement}
 use Rattle.reader.specs.Reading.{readingBy, readingOf, IsAccepted}
 use Rattle.reader.proofs.Starting.{either}
 

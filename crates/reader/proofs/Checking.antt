@@ -10,7 +10,7 @@ use Rattle.refusal.specs.declared.Verdict.{Verdict}
 use Rattle.refusal.specs.declared.Verdict.the-variants.{Accepted, Refused}
 use Rattle.refusal.specs.Table.{verdict}
 use Rattle.refusal.proofs.Rows.{then, verdict-append}
-use Rattle.extension.specs.Walk.{Walked, stopped}
+use Rattle.extension.specs.Walk.{stopped}
 use Rattle.header.specs.declared.Kind.{Kind}
 use Rattle.rules.specs.declared.Image.{Image}
 use Rattle.rules.specs.declared.Judged.the-variants.{Passed, Failed}
@@ -18,9 +18,8 @@ use Rattle.rules.specs.Rules.{fieldRows, imageOf, judgedOf}
 use Rattle.rules.proofs.Passed.{judged-passed-is, judged-failed-is}
 use Rattle.reader.specs.declared.Start.the-variants.{Known, Unread}
 use Rattle.reader.specs.declared.Layout.{Layout}
-use Rattle.reader.specs.declared.Checked.{Checked}
 use Rattle.reader.specs.declared.Checked.the-variants.{Fits, Breaks}
-use Rattle.reader.specs.File.{orderOf, kindOf, headRows, startBy, startOf, shapeIn, shapeOf, endRows, fileRows, layoutOf, checkedBy, checkedOf, extensionsOf, unlessRefused, judgement}
+use Rattle.reader.specs.File.{orderOf, kindOf, headRows, startBy, startOf, shapeIn, shapeOf, endRows, fileRows, layoutOf, checkedBy, checkedOf, extensionsOf, judgement}
 
 -- what an answer of rules 1 to 4 tells
 pub record Began (s : List ℕ) (order : Order) (kind : Kind) : Type 0 where

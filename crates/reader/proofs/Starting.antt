@@ -1,18 +1,16 @@
 -- What rules 1 to 4 decide, rule by rule: each law names the rules that have passed and the one that refuses.
 use Prim.Native.Nat.{ℕ, _+_, _<_, _≤_}
-use mathlib.Core.Path.{_≡_, refl, sym, _∙_}
+use mathlib.Core.Path.{_≡_, refl, _∙_}
 use mathlib.Core.Bool.{Bool, true, false, cond, _&&_, _||_}
 use mathlib.Core.List.{List, [], _∷_}
 use native.Mathlib.Omega.{arith}
 use native.Mathlib.Nat.{add-zero}
-use borrow.Author.Tests.{lt-ltb, le-ltb, lt-leb, ltb-false}
-use lib.Dec.{leb, ltb, eqb}
-use lib.IntN.{ℤ, pos}
+use borrow.Author.Tests.{lt-ltb, le-ltb}
+use lib.Dec.{eqb}
 use lib.ListN.{length, getD}
-use mir.Syntax.{Width, w16, w32}
-use mir.Val.{Fits, toZ, ofZ}
+use mir.Syntax.{w32}
+use mir.Val.{Fits, toZ}
 use mir.ValLaws.{toZ-fits, ofZ-toZ}
-use Rattle.field.specs.declared.Order.{Order}
 use Rattle.field.specs.declared.Order.the-variants.{Little, Big}
 use Rattle.field.specs.Numbers.{bytesAt, i32At}
 use Rattle.refusal.specs.Table.{refusal, verdict}

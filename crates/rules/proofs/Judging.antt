@@ -1,7 +1,7 @@
 -- What rules 5 to 10 decide, rule by rule: each law names the rules that have passed and the one that refuses.
 use Prim.Native.Nat.{ℕ, zero, suc, _+_, _*_, _/_, _<_, _≤_}
 use mathlib.Core.Path.{_≡_, refl, ap, sym, _∙_}
-use mathlib.Core.Bool.{Bool, true, false, not, _||_}
+use mathlib.Core.Bool.{Bool, true, false, _||_}
 use mathlib.Core.List.{List}
 use native.Mathlib.Omega.{arith}
 use borrow.Author.Tests.{ne-eqb, eq-eqb, eqb-true, lt-ltb, le-ltb}
@@ -15,7 +15,7 @@ use Rattle.datatype.specs.declared.Datatype.the-variants.{Unknown}
 use Rattle.datatype.specs.Datatypes.{datatypeOf, isNumber}
 use Rattle.datatype.proofs.Bits.{number-bits}
 use Rattle.datatype.proofs.Sound.{Sound, known-sound}
-use Rattle.offset.specs.Offset.{isWhole, wholeOf, offsetLimit}
+use Rattle.offset.specs.Offset.{isWhole, offsetLimit}
 use Rattle.grid.specs.Axes.{extent, firstBelow, imageBytes, imageLimit, capped}
 use Rattle.grid.proofs.Axes.{first-least}
 use Rattle.header.specs.declared.Kind.{Kind}

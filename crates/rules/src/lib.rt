@@ -2,7 +2,6 @@
 // (01-scope.md, "Refusal numbers" and "The header rules").
 ghost use mathlib.Core.Path.{_≡_};
 ghost use Prim.Native.Nat.{_≤_};
-ghost use Rattle.offset.specs.Offset.{offsetLimit};
 ghost use Rattle.rules.specs.Rules.{judgedOf, recordJudged, offsetOutside, axisCount, HasFormat, HasOffset};
 use datatype::Datatype;
 use datatype::Format;

@@ -2,8 +2,8 @@
 use mathlib.Core.Path.{_≡_, refl, sym, ap, _∙_}
 use mathlib.Core.List.{List, [], _∷_, _++_, append-assoc, append-nil, reverse, reverse-reverse}
 use Prim.Native.Nat.{ℕ, zero, suc, _+_, _*_, _-_, _≤_, _<_}
-use native.Mathlib.Nat.{suc-mul, add-mul, add-comm, zero-add, add-zero, zero-mul, one-mul, suc-add, le-add-right}
-use native.Mathlib.Numerals.{sub-one, one-add, add-one}
+use native.Mathlib.Nat.{suc-mul, add-mul, add-comm, zero-add, add-zero, zero-mul, suc-add, le-add-right}
+use native.Mathlib.Numerals.{sub-one}
 use native.Mathlib.Omega.{arith}
 use lib.ListN.{length, take, drop, length-append, length-take, length-drop, length-reverse, take-append-drop}
 use lib.Seq.{length-take-le, take-nil, take-take, take-at, drop-at, drop-drop, slice-empty}
@@ -77,10 +77,6 @@ turned-own w n l = rw add-zero at (turned-parts w n 0 l)
 length-own : (w n : ℕ) (l : List ℕ) → n * w ≤ length l → length (turned w n (take (n * w) l)) ≡ n * w
 length-own w n l h = length-turned w n (take (n * w) l) ∙ length-take-le (n * w) l h
 
--- what stands behind the units stays
-pub turned-behind : (w n : ℕ) (l : List ℕ) → n * w ≤ length l → drop (n * w) (turned w n l) ≡ drop (n * w) l
-turned-behind w n l h = ap (drop (n * w)) (turned-own w n l) ∙ drop-at (turned w n (take (n * w) l)) (drop (n * w) l) (n * w) (length-own w n l h)
-
 -- m of the n units, from unit k on
 pub turned-within : (w k m n : ℕ) (l : List ℕ) → k + m ≤ n → (k + m) * w ≤ length l → take (m * w) (drop (k * w) (turned w n l)) ≡ turned w m (take (m * w) (drop (k * w) l))
 turned-within w k m n l h g =
@@ -100,10 +96,6 @@ unfolding turned
 turned-one w l =
     let t : take w (take w l) ≡ take w l = take-take w w l (omega arith) in
     rw (t, slice-empty w l) (append-nil (reverse (take w l)))
-
--- unit k of the n is turned round in its place
-pub turned-unit : (w k n : ℕ) (l : List ℕ) → k < n → suc k * w ≤ length l → take w (drop (k * w) (turned w n l)) ≡ reverse (take w (drop (k * w) l))
-turned-unit w k n l h g = rw one-mul at (turned-within w k 1 n l (omega arith) (rw add-one g)) ∙ turned-one w (drop (k * w) l)
 
 -- turning round twice gives the list back
 pub turned-twice : (w n : ℕ) (l : List ℕ) → n * w ≤ length l → turned w n (turned w n l) ≡ l
@@ -130,29 +122,12 @@ turned-split w at m n l h =
     rw (turned-parts w m n d)
     (sym (rw (turned-own w m d, take-past at (m * w) l a r, drop-past at (m * w) l a r) (append-assoc (take at l) a (turned w n r))))
 
--- the first unit, then the others
-pub turned-first : (w at n : ℕ) (l : List ℕ) → at + w ≤ length l → turnedAt w at (suc n) l ≡ turnedAt w (at + w) n (turnedAt w at 1 l)
-turned-first w at n l h = rw (one-add, one-mul) at (turned-split w at 1 n l (rw one-mul h))
-
--- m units and then n units are m + n units
-pub turned-join : (w at m n : ℕ) (l l₁ l₂ : List ℕ) → at + m * w ≤ length l → l₁ ≡ turnedAt w at m l → l₂ ≡ turnedAt w (at + m * w) n l₁ → l₂ ≡ turnedAt w at (m + n) l
-turned-join w at m n l l₁ l₂ h e f = f ∙ rw e (sym (turned-split w at m n l h))
-
 -- m of n units are turned round, and the others are left: a turn of a loop
 pub turned-next : (w at m n : ℕ) (l l′ : List ℕ) → m ≤ n → at + n * w ≤ length l → l′ ≡ turnedAt w at m l → turnedAt w at n l ≡ turnedAt w (at + m * w) (n - m) l′
 turned-next w at m n l l′ h k e =
     let s : n ≡ m + (n - m) = omega arith in
     let k′ : at + m * w ≤ length l = omega (arith, add-mul m (n - m) w, ap (λ (x : ℕ). x * w) s) in
     ap (λ (x : ℕ). turnedAt w at x l) s ∙ turned-split w at m (n - m) l k′ ∙ sym (rw e)
-
--- turning round twice gives the list back
-pub turnedAt-twice : (w at n : ℕ) (l : List ℕ) → at + n * w ≤ length l → turnedAt w at n (turnedAt w at n l) ≡ l
-unfolding turnedAt
-turnedAt-twice w at n l h =
-    let d : List ℕ = drop at l in
-    let ends : length (take at l) ≡ at = length-take-le at l (omega arith) in
-    let h′ : n * w ≤ length d = rw length-drop (omega arith) in
-    rw (take-at (take at l) (turned w n d) at, drop-at (take at l) (turned w n d) at, turned-twice w n d) (take-append-drop at l)
 
 -- ---- The loop over `bytes::reverse`
 

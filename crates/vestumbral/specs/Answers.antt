@@ -2,7 +2,6 @@
 -- success, and beside a refusal every other number but the place is 0.
 use Prim.Native.Nat.{ℕ}
 use mathlib.Core.Bool.{cond}
-use mathlib.Core.List.{List}
 use lib.Dec.{ltb}
 use lib.IntN.{pos}
 use lib.Ieee.{Float, fin}
@@ -26,7 +25,6 @@ use Rattle.voxel.specs.declared.Located.{Located}
 use Rattle.voxel.specs.declared.Located.the-variants.{At, Unlocated}
 use Rattle.timing.specs.declared.Slice.{Slice}
 use Rattle.timing.specs.declared.Slice.the-variants as slice
-use Rattle.affine.specs.declared.Position.{Position}
 use Rattle.position.specs.declared.Positioned.{Positioned}
 use Rattle.position.specs.declared.Positioned.the-variants as position
 use Rattle.edit.specs.declared.Edited.{Edited}

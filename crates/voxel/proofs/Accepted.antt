@@ -5,7 +5,7 @@ use mathlib.Core.Bool.{false}
 use mathlib.Core.List.{List}
 use lib.ListN.{length}
 use Rattle.rules.specs.Rules.{imageOf, shapeOfRecord}
-use Rattle.reader.specs.File.{shapeIn, shapeOf, cutShort}
+use Rattle.reader.specs.File.{shapeIn, cutShort}
 use Rattle.reader.specs.Reading.{readingOf, IsAccepted}
 use Rattle.reader.proofs.Accepted as reader
 use Rattle.reader.proofs.Theorems as theorems

@@ -1,9 +1,8 @@
 -- The rows marked P of 01-scope.md, "Numbers on each side", as a single table with a single statement: each left side is computed
 -- by the definitions that the calls' promises cite, each right side is the paper's. A row is computed by itself, since the checker
 -- bounds what one declaration may compute; the table is all of them.
-use Prim.Native.Nat.{ℕ}
 use mathlib.Core.Path.{_≡_, refl}
-use mathlib.Core.List.{List, [], _∷_, reverse}
+use mathlib.Core.List.{[], _∷_, reverse}
 use lib.Ieee.{lt, mul, ofBits, toBits, ofInt}
 use lib.ListN.{take, drop}
 use Rattle.field.specs.Numbers.{padded, bytesOf, u16At, u32At}

@@ -1,8 +1,8 @@
 -- 01-scope.md, "Numbers on each side": file A, and each answer as a list of the paper's numbers, so that all rows are one table.
 use Prim.Native.Nat.{ℕ, _+_}
-use mathlib.Core.List.{List, [], _∷_, _++_, reverse}
+use mathlib.Core.List.{List, [], _∷_, _++_}
 use lib.IntN.{pos}
-use lib.ListN.{take, drop, replicate}
+use lib.ListN.{take, replicate}
 use Rattle.field.specs.Numbers.{tabulate}
 use Rattle.refusal.specs.declared.Verdict.{Verdict}
 use Rattle.refusal.specs.declared.Verdict.the-variants.{Accepted, Refused}
@@ -18,7 +18,7 @@ use Rattle.voxel.specs.Voxel.{locatedOf}
 use Rattle.edit.specs.declared.Change.the-variants.{Append}
 use Rattle.edit.specs.declared.Edited.{Edited}
 use Rattle.edit.specs.declared.Edited.the-variants.{Done, Denied}
-use Rattle.edit.specs.Outcome.{Outcome, outcomeOf, answerOf, bufferAfter}
+use Rattle.edit.specs.Outcome.{Outcome, outcomeOf, bufferAfter}
 
 abbrev pub zeros : ℕ → List ℕ
 zeros n = replicate n 0
@@ -72,10 +72,6 @@ note = outcomeOf buffer 364 Append (pos 6) (1 ∷ 2 ∷ 3 ∷ 4 ∷ 5 ∷ [])
 
 abbrev pub appended : List ℕ
 appended = take 380 (bufferAfter buffer 364 note)
-
--- the length answered; the four bytes of vox_offset, from the most significant; voxel (2,1)
-abbrev pub appendRows : List (List ℕ)
-appendRows = ofEdited (answerOf note) ∷ reverse (take 4 (drop 108 appended)) ∷ at appended 2 1 ∷ []
 
 -- seven slices of one byte along the third axis, slice_duration 0.1, "start 1, end 5" and a code: document 004's setting
 abbrev pub slicesFile : ℕ → List ℕ

@@ -1,14 +1,12 @@
 -- Demand 2: "Writing the record gives the same 348 bytes." The record of an accepted file is never refused for what it holds, and
 -- written to any buffer that has room it puts the file's first 348 bytes there and leaves the rest.
 use Prim.Native.Nat.{ℕ, _≤_, _<_}
-use mathlib.Core.Path.{_≡_, _∙_}
-use mathlib.Core.List.{List, [], _∷_, _++_}
+use mathlib.Core.Path.{_≡_}
+use mathlib.Core.List.{List, _++_}
 use borrow.Author.Tests.{le-ltb}
-use lib.Dec.{ltb}
 use lib.ListN.{length, getD, take, drop}
 use Rattle.refusal.specs.declared.Verdict.the-variants.{Accepted}
-use Rattle.refusal.specs.Table.{row}
-use Rattle.refusal.proofs.Rows.{Clear, none, one, clear-accepted, clear-append}
+use Rattle.refusal.proofs.Rows.{none, one, clear-accepted, clear-append}
 use Rattle.reader.specs.Reading.{readingOf, IsAccepted}
 use Rattle.reader.proofs.Accepted.{accepted-record}
 use Rattle.reader.proofs.Theorems.{accepted-back}
