@@ -116,7 +116,7 @@ module _ (file image : List ℕ) (a : swapAnswer file image ≡ Accepted) where
 
   -- the voxel of the datatype's bytes that k others are before: its units are turned round, each in its place
   module _ (t : Format) (d : datatypeOf (shapeOf file .datatype) ≡ Known t) where
-    unit-is : unitIn (orderOf file) file ≡ t .unit
+    pub unit-is : unitIn (orderOf file) file ≡ t .unit
     unfolding unitIn shapeIn
     unit-is = ap unitOf d
 

@@ -32,17 +32,28 @@ axes-few z e =
     let p = and-eq-true-iff (leb 1 (extent z)) (leb (extent z) 7) .0 (sym (seven-extent z) ∙ not-false (oneToSeven z) e) in
     leb-true (extent z) 7 (p .1)
 
--- rules 5 to 8, with the format that the datatype has: a voxel has a byte
-module _ (h : Header) where
-  format-bytes : (t : Format) → HasOffset (shapeOfRecord h) t (wholeOf (h .scale .«vox_offset»)) → 1 ≤ voxelBytes h
-  format-bytes t f =
-      rw (voxel-bytes (shapeOfRecord h) 0 t (wholeOf (h .scale .«vox_offset»)) f) (known-sound (h .intent .datatype) t (f .format .known) .some)
+-- rules 5 to 8: the datatype has a format, and a voxel has its bytes
+pub record Formed (h : Header) : Type 0 where
+  pub format : Format
+  pub known : datatypeOf (h .intent .datatype) ≡ Known format
+  pub bytes : voxelBytes h ≡ format .bytes
 
-  bytes-by : (d : Datatype) → datatypeOf (h .intent .datatype) ≡ d → statesBits d (h .intent .bitpix) ≡ true
-      → firstBad (shapeOfRecord h) ≡ 0 → isWhole (h .scale .«vox_offset») ≡ true → 1 ≤ voxelBytes h
-  bytes-by (Known t) known bits axes whole =
-      format-bytes t (record { format = record { axes = axes; known = known }; bits = bits; whole = whole; value = refl })
-  bytes-by Unknown known bits axes whole = let z : _≡_ {A = ℕ} 0 1 = cc in absurd (omega arith)
+module _ (h : Header) where
+  formed-by : (d : Datatype) → datatypeOf (h .intent .datatype) ≡ d → statesBits d (h .intent .bitpix) ≡ true
+      → firstBad (shapeOfRecord h) ≡ 0 → isWhole (h .scale .«vox_offset») ≡ true → Formed h
+  formed-by (Known t) known bits axes whole =
+      let at = wholeOf (h .scale .«vox_offset») in
+      let o : HasOffset (shapeOfRecord h) t at = record { format = record { axes = axes; known = known }; bits = bits; whole = whole; value = refl } in
+      record { format = t; known = known; bytes = voxel-bytes (shapeOfRecord h) 0 t at o }
+  formed-by Unknown known bits axes whole = let z : _≡_ {A = ℕ} 0 1 = cc in absurd (omega arith)
+
+  pub record-formed : Clear (recordRows h) → Formed h
+  record-formed (one two (one five (one six (one seven (one eight rest))))) =
+      let f = shapeOfRecord h in
+      formed-by (datatypeOf (f .datatype)) refl
+      (not-false (statesBits (datatypeOf (f .datatype)) (f .bitpix)) seven)
+      (eqb-true (firstBad f) 0 (not-false (eqb (firstBad f) 0) five))
+      (not-false (isWhole (f .«vox_offset»)) eight)
 
 pub record Sized (h : Header) : Type 0 where
   pub axes : axisCount (h .dim) ≤ 7
@@ -51,16 +62,12 @@ pub record Sized (h : Header) : Type 0 where
   pub bytes : imageOf (shapeOfRecord h) .bytes ≤ imageLimit
 
 pub record-sized : (h : Header) → Clear (recordRows h) → Sized h
-record-sized h (one two (one five (one six (one seven (one eight rest))))) =
-    let f = shapeOfRecord h in
-    let limits = clear-bounds f 0 (one five (one six (one seven (one eight rest)))) in
-    let voxel = bytes-by h (datatypeOf (f .datatype)) refl
-    (not-false (statesBits (datatypeOf (f .datatype)) (f .bitpix)) seven)
-    (eqb-true (firstBad f) 0 (not-false (eqb (firstBad f) 0) five))
-    (not-false (isWhole (f .«vox_offset»)) eight) in
+record-sized h (one two fields) =
+    let limits = clear-bounds (shapeOfRecord h) 0 fields in
+    let v = record-formed h (one two fields) in
     record {
       axes = axes-few (dimAt (h .dim) 0) two;
-      some = voxel;
+      some = rw (v .bytes) (known-sound (h .intent .datatype) (v .format) (v .known) .some);
       offset = limits .0;
       bytes = limits .1;
     }

@@ -56,11 +56,11 @@ image-held Single i file image s p = ltb-false (length file) (i .offset + i .byt
 image-held Pair i file image s p = ltb-false (length image) (i .offset + i .bytes) p
 
 module _ (file image index : List ℕ) (e : Extent) (at : locatedOf file image index ≡ At e) where
-  located-both : IsAccepted file × (locatedIn (readingOf file .header) (length image) index ≡ At e)
+  pub located-both : IsAccepted file × (locatedIn (readingOf file .header) (length image) index ≡ At e)
   unfolding locatedOf
   located-both = after-at (readingOf file .verdict) (locatedIn (readingOf file .header) (length image) index) e at
 
-  file-found : Found (readingOf file .header) (length image) index e
+  pub file-found : Found (readingOf file .header) (length image) index e
   file-found = found (readingOf file .header) (length image) index e (located-both .1)
 
   -- A voxel's bytes lie inside the image,
