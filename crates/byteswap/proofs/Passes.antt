@@ -12,14 +12,12 @@ use Rattle.field.specs.Numbers.{i16At}
 use Rattle.refusal.specs.declared.Verdict.the-variants.{Accepted}
 use Rattle.refusal.specs.Table.{verdict}
 use Rattle.refusal.proofs.Rows.{Clear, one, accepted-clear}
-use Rattle.refusal.proofs.Rows as rows
 use Rattle.datatype.specs.declared.Format.{Format}
 use Rattle.datatype.specs.declared.Datatype.{Datatype}
 use Rattle.datatype.specs.declared.Datatype.the-variants.{Known, Unknown}
 use Rattle.datatype.specs.Datatypes.{datatypeOf}
 use Rattle.datatype.proofs.Sound.{known-sound}
 use Rattle.offset.specs.Offset.{offsetLimit}
-use Rattle.grid.specs.Axes.{imageLimit}
 use Rattle.extension.specs.declared.Span.{Span}
 use Rattle.extension.specs.Walk.{extensionLimit, firstPlace, restOf, listed, extensionsIn}
 use Rattle.extension.specs.Fills.{Fills, full}
@@ -29,7 +27,7 @@ use Rattle.header.specs.declared.Kind.{Kind}
 use Rattle.header.specs.declared.Kind.the-variants.{Single, Pair}
 use Rattle.rules.specs.declared.Image.{Image}
 use Rattle.rules.specs.Rules.{offsetOutside, isKnown}
-use Rattle.rules.proofs.Passed.{neither, clear-bounds}
+use Rattle.rules.proofs.Passed.{neither}
 use Rattle.reader.specs.declared.Layout.{Layout}
 use Rattle.reader.specs.File.{holdsIn, shapeIn, shapeOf, fileRows, layoutOf, cutShort, regionEnd, hasExtensions, extensionsOf, judgement}
 use Rattle.reader.proofs.Accepted as reader
@@ -61,7 +59,6 @@ pub record Passes (s : List ℕ) (l : Layout) : Type 0 where
   pub ordered : (holdsIn Little s || holdsIn Big s) ≡ true
   pub format : Format
   pub known : datatypeOf (i16At (l .order) s 70) ≡ Known format
-  pub bounds : (l .image .offset ≤ offsetLimit) × (l .image .bytes ≤ imageLimit)
   pub outside : offsetOutside (l .kind) (l .image .offset) (length s) ≡ false
   pub whole : cutShort (l .kind) (length s) (l .image) ≡ false
 
@@ -74,7 +71,6 @@ clear-passes s (one r1 (one r2 (one r3 (one r4 (one r5 (one r6 (one r7 (one r8 (
       ordered = not-false _ r2;
       format = k .0;
       known = k .1;
-      bounds = clear-bounds (shapeOf s) (length s) (one r5 (one r6 (one r7 (one r8 (one r9 (one r10 rows.none))))));
       outside = r9;
       whole = r11;
     }

@@ -79,15 +79,19 @@ shapeIn order kind s =
 abbrev pub shapeOf : List ℕ → Shape
 shapeOf s = shapeIn (orderOf s) (kindOf s) s
 
--- rule 11: a single file is shorter than its voxel offset and image bytes
+-- "shorter than vox_offset + image bytes"
+abbrev pub isShort : ℕ → Image → Bool
+isShort len image = ltb len (image .offset + image .bytes)
+
+-- rule 11: a single file is
 abbrev pub cutShort : Kind → ℕ → Image → Bool
-cutShort Single len image = ltb len (image .offset + image .bytes)
+cutShort Single len image = isShort len image
 cutShort Pair len image = false
 
--- rule 16: a pair's image file is shorter than that
+-- rule 16: a pair's image file is
 abbrev pub imageCut : Kind → ℕ → Image → Bool
 imageCut Single len image = false
-imageCut Pair len image = ltb len (image .offset + image .bytes)
+imageCut Pair len image = isShort len image
 
 -- "part of the file or of the image file, whichever holds them: the first for a single file, the second for a pair"
 abbrev pub holder : Kind → List ℕ → List ℕ → List ℕ

@@ -1,13 +1,11 @@
 // The reader: a file's verdict by rules 1 to 15, and its record (01-scope.md, "Refusal numbers", "The header rules").
 ghost use mathlib.Core.Path.{_≡_};
 ghost use mathlib.Core.List.{[], _∷_};
-ghost use Prim.Native.Nat.{_≤_, _<_};
+ghost use Prim.Native.Nat.{_<_};
 ghost use Rattle.field.specs.Numbers.{bytesAt};
 ghost use Rattle.refusal.specs.Table.{verdict};
 ghost use Rattle.extension.specs.Listing.{listingOf};
-ghost use Rattle.offset.specs.Offset.{offsetLimit};
-ghost use Rattle.grid.specs.Axes.{imageLimit};
-ghost use Rattle.reader.specs.File.{sameBytes, holdsIn, orderOf, hasMagic, startOf, shapeIn, cutShort, imageCut, cutExtender, hasNone, hasExtensions, endRows, checkedOf, regionEnd, extensionsOf};
+ghost use Rattle.reader.specs.File.{sameBytes, holdsIn, orderOf, hasMagic, startOf, shapeIn, isShort, cutShort, imageCut, cutExtender, hasNone, hasExtensions, endRows, checkedOf, regionEnd, extensionsOf};
 ghost use Rattle.reader.specs.Reading.{refusedWith, readingOf};
 use extension::Listing;
 use field::Order;
@@ -126,25 +124,35 @@ fn shape_in(file: &[u8], order: Order, kind: Kind) -> Shape
     }
 }
 
+// Whether a file of `len` bytes ends before its image does. Offset and bytes are not added: of any two numbers the sum could wrap.
+fn is_short(len: usize, image: Image) -> bool
+    ensures { λ r. ⌜ r ≡ isShort len image ⌝ }
+{
+    let n = len as u64;
+    if n < image.offset {
+        true
+    } else {
+        n - image.offset < image.bytes
+    }
+}
+
 // Rule 11.
 fn cut_short(kind: Kind, len: usize, image: Image) -> bool
-    requires { ⌜ (image .offset ≤ offsetLimit) × (image .bytes ≤ imageLimit) ⌝ }
     ensures { λ r. ⌜ r ≡ cutShort kind len image ⌝ }
 {
     match kind {
-        Kind::Single => (len as u64) < image.offset + image.bytes,
+        Kind::Single => is_short(len, image),
         Kind::Pair => false,
     }
 }
 
 // Rule 16. `len` is the length of a pair's image file.
 pub fn image_cut(kind: Kind, len: usize, image: Image) -> bool
-    requires { ⌜ (image .offset ≤ offsetLimit) × (image .bytes ≤ imageLimit) ⌝ }
     ensures { λ r. ⌜ r ≡ imageCut kind len image ⌝ }
 {
     match kind {
         Kind::Single => false,
-        Kind::Pair => (len as u64) < image.offset + image.bytes,
+        Kind::Pair => is_short(len, image),
     }
 }
 
@@ -172,7 +180,6 @@ pub fn has_extensions(file: &[u8]) -> bool
 
 // Rules 11 and 12.
 fn check_end(file: &[u8], kind: Kind, image: Image) -> Verdict
-    requires { ⌜ (image .offset ≤ offsetLimit) × (image .bytes ≤ imageLimit) ⌝ }
     ensures { λ r. ⌜ r ≡ verdict (endRows kind image (now (file .entry))) ⌝ }
 {
     if cut_short(kind, file.len(), image) {

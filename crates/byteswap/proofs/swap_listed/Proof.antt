@@ -12,10 +12,7 @@ use Rattle.byteswap.proofs.swap_listed.Statement.{statement}
 use Rattle.byteswap.proofs.swap_listed.Tie as tie
 
 image-cut-requires : tie.Need-image-cut-requires
-image-cut-requires c κs =
-    let S = c .before .before .before .before in
-    let a = S .args in
-    file-passes (a .file .now) (a .layout) (S .pre .0) (a .listing) (S .pre .1) (S .pre .2) .bounds
+image-cut-requires c κs = search needs
 
 returns : tie.Need-returns
 returns c =

@@ -3,7 +3,6 @@ use mathlib.Core.Path.{_≡_, sym, _∙_}
 use denote.Ref.{now}
 use lib.ListN.{length}
 use Rattle.rules.specs.Rules.{judgedOf}
-use Rattle.rules.proofs.Passed.{passed-bounds}
 use Rattle.reader.specs.File.{shapeIn}
 use Rattle.reader.proofs.Checking.{began, checks-fields, checks-end, checks-all}
 use borrow.Author.Needs.{needs}
@@ -27,10 +26,7 @@ enum-known-judged-2 : tie.Need-enum-known-judged-2
 enum-known-judged-2 c = search needs
 
 check-end-requires : tie.Need-check-end-requires
-check-end-requires c κs =
-    let j = c .before .before .before in
-    let a = j .before .before .before .args in
-    passed-bounds (shapeIn (a .order) (a .kind) (now (a .file))) (length (now (a .file))) (c .before .judged2 .given .0 .0) (sym (judged-is j) ∙ c .before .judged2 .given .1)
+check-end-requires c κs = search needs
 
 enum-known-end : tie.Need-enum-known-end
 enum-known-end c = search needs

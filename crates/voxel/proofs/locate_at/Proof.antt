@@ -19,7 +19,7 @@ use Rattle.voxel.proofs.locate_at.Statement.{statement}
 use Rattle.voxel.proofs.locate_at.Tie as tie
 
 image-cut-requires : tie.Need-image-cut-requires
-image-cut-requires c κs = passed-limits (c .args .header) (c .args .image) (c .pre)
+image-cut-requires c κs = search needs
 
 unlocated-requires : tie.Need-unlocated-requires
 unlocated-requires c κs = search needs
