@@ -1,7 +1,7 @@
 /*
- * The test vectors of the source documents (source-audit.md, section 6), asked of the library through its C interface and printed,
- * one line an answer. vectors.out has what the documents say. Three stand elsewhere: document 004's slice table and the row that
- * shows the order of rounding in the program slice_table, and the record written back in the program header_copy.
+ * The numbers that the source documents state, and some that follow from them, asked of the library through its C interface and
+ * printed, one line an answer; vectors.out has what they should be. Three stand elsewhere: document 004's slice table and the row
+ * that shows the order of rounding in the program slice_table, and the record written back in the program header_copy.
  */
 #include "vestumbral.h"
 
