@@ -21,8 +21,8 @@ use Rattle.header.specs.declared.Kind.the-variants.{Single, Pair}
 use Rattle.reader.specs.File.{holdsIn, orderOf, hasMagic, kindOf}
 use Rattle.buffer.specs.Put.{put}
 use Rattle.buffer.proofs.Laws.{getD-put-before, getD-put-after}
-use Rattle.edit.specs.Fresh.{tailOf, extenderFor, endFor, headFor, freshFile}
-use Rattle.edit.proofs.Planning.{length-top}
+use Rattle.edit_plan.specs.Fresh.{tailOf, extenderFor, endFor, headFor, freshFile}
+use Rattle.edit_plan.proofs.Planning.{length-top}
 
 -- the bytes from `at` up to `at + w` are none of vox_offset's
 pub data Apart (at w : ℕ) : Type 0 where

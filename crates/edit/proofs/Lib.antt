@@ -1,9 +1,6 @@
 -- The laws behind the promises of src/lib.rt, and the theorems of demand 3 about the fresh file.
-pub mod Exchanging
 pub mod Storing
-pub mod Cutting
-pub mod Planning
-pub mod Deciding
+pub mod Outcomes
 pub mod Splicing
 pub mod Keeping
 pub mod Rereading

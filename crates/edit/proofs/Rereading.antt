@@ -29,8 +29,8 @@ use Rattle.rules.specs.Rules.{fieldRows, imageOf, offsetOutside}
 use Rattle.rules.proofs.Passed.{neither}
 use Rattle.reader.specs.File.{holdsIn, orderOf, hasMagic, kindOf, shapeIn, shapeOf, cutShort, cutExtender, hasNone, hasExtensions, noExtensions, someExtensions, sameBytes, fileRows, layoutOf, regionEnd, extensionsOf, judgement}
 use Rattle.buffer.proofs.Laws.{drop-take}
-use Rattle.edit.specs.Fresh.{endOf, extensionList, tailBy, tailOf, extenderFor, endFor, headFor, freshFile}
-use Rattle.edit.proofs.Planning.{length-extender, length-top, length-fresh}
+use Rattle.edit_plan.specs.Fresh.{endOf, extensionList, tailBy, tailOf, extenderFor, endFor, headFor, freshFile}
+use Rattle.edit_plan.proofs.Planning.{length-extender, length-top, length-fresh}
 use Rattle.edit.proofs.Keeping.{before, same-u32, same-i16, same-dims, same-holds, same-order, same-magic, same-kind, single-offset, pair-offset}
 
 -- the spans of whole extensions cut them out of their joined bytes again

@@ -23,17 +23,17 @@ use Rattle.buffer.specs.Put.{put}
 use Rattle.buffer.specs.Settled.{replaced, settled}
 use Rattle.buffer.proofs.Laws.{drop-take, length-put, put-left, put-append}
 use Rattle.buffer.proofs.Settled.{settled-put, settle}
-use Rattle.edit.specs.declared.Change.{Change}
-use Rattle.edit.specs.declared.Change.the-variants.{Append, Replace, Remove}
-use Rattle.edit.specs.declared.Plan.{Plan}
-use Rattle.edit.specs.Fresh.{endOf, extensionList, tailOf, exchange, outFrom, outTo, broughtIn, editedList, extenderFor, endFor, headFor, freshFile, freshOf}
-use Rattle.edit.specs.Outcome.{offersNegative}
-use Rattle.edit.specs.Planned.{newSize, bytesBefore, extenderBytes, planOf}
-use Rattle.edit.proofs.Exchanging.{joined-some, wholes-exchange, before-all, before-later, joined-exchange}
+use Rattle.edit_plan.specs.declared.Change.{Change}
+use Rattle.edit_plan.specs.declared.Change.the-variants.{Append, Replace, Remove}
+use Rattle.edit_plan.specs.declared.Plan.{Plan}
+use Rattle.edit_plan.specs.Fresh.{endOf, extensionList, tailOf, exchange, outFrom, outTo, broughtIn, editedList, extenderFor, endFor, headFor, freshFile, freshOf}
+use Rattle.edit_plan.specs.Refusals.{offersNegative}
+use Rattle.edit_plan.specs.Planned.{newSize, bytesBefore, extenderBytes, planOf}
+use Rattle.edit_plan.proofs.Exchanging.{joined-some, wholes-exchange, before-all, before-later, joined-exchange}
 use Rattle.edit.proofs.Storing.{stored-whole}
-use Rattle.edit.proofs.Cutting.{opens}
-use Rattle.edit.proofs.Planning.{length-extender, length-new, length-fresh, outBytes, places, out-inside, end-new, whole-new}
-use Rattle.edit.proofs.Deciding.{Allowed}
+use Rattle.edit_plan.proofs.Cutting.{opens}
+use Rattle.edit_plan.proofs.Planning.{length-extender, length-new, length-fresh, outBytes, places, out-inside, end-new, whole-new}
+use Rattle.edit_plan.proofs.Deciding.{Allowed}
 
 -- ---- the new list
 

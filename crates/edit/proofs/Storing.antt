@@ -1,11 +1,11 @@
--- The stored extension E: its length, that it is whole, and that its size is the least that the rules allow.
-use Prim.Native.Nat.{ℕ, _+_, _-_, _%_, _≤_, _<_}
+-- The stored extension E: that it is whole, and the stores that make it.
+use Prim.Native.Nat.{ℕ, _+_, _-_, _≤_, _<_}
 use mathlib.Core.Path.{_≡_, refl, _∙_}
 use mathlib.Core.Bool.{false}
 use mathlib.Core.List.{List, [], _++_, append-assoc}
 use native.Mathlib.Omega.{arith}
 use lib.IntN.{ℤ, pos}
-use lib.ListN.{length, replicate, length-append, length-replicate}
+use lib.ListN.{length, replicate, length-append}
 use lib.Seq.{sets}
 use lib.Signed.{ltZ}
 use mir.Syntax.{w32}
@@ -18,15 +18,8 @@ use Rattle.field.proofs.Stores.{length-bytesOf}
 use Rattle.extension.specs.Pieces.{Whole}
 use Rattle.buffer.specs.Put.{put}
 use Rattle.buffer.proofs.Laws.{sets-put, put-right}
-use Rattle.edit.specs.Fresh.{sizeFor, stored}
-
--- "the least multiple of 16 that is at least L + 8"
-pub size-least : (n : ℕ) → (sizeFor n % 16 ≡ 0) × (n + 8 ≤ sizeFor n) × ((m : ℕ) → m % 16 ≡ 0 → n + 8 ≤ m → sizeFor n ≤ m)
-size-least n = (omega arith, omega arith, λ m u h. omega arith)
-
-pub length-stored : (order : Order) (code : ℤ) (p : List ℕ) → length (stored order code p) ≡ sizeFor (length p)
-unfolding stored
-length-stored order code p = simp (length-append, length-bytesOf, length-replicate) (omega arith)
+use Rattle.edit_plan.specs.Fresh.{sizeFor, stored}
+use Rattle.edit_plan.proofs.Sizing.{length-stored}
 
 -- with a code that is not negative, it is a whole extension
 pub stored-whole : (order : Order) (code : ℤ) (p : List ℕ) → SFits w32 code → ltZ code (pos 0) ≡ false → sizeFor (length p) < 2147483648

@@ -36,15 +36,16 @@ use Rattle.reader.specs.Reading.{readingBy, readingOf, IsAccepted}
 use Rattle.reader.proofs.Accepted.{accepted-image, accepted-shape}
 use Rattle.buffer.specs.Settled.{settled}
 use Rattle.buffer.proofs.Settled.{take-settled}
-use Rattle.edit.specs.declared.Change.{Change}
-use Rattle.edit.specs.declared.Change.the-variants.{Remove}
+use Rattle.edit_plan.specs.declared.Change.{Change}
+use Rattle.edit_plan.specs.declared.Change.the-variants.{Remove}
 use Rattle.edit.specs.declared.Edited.the-variants.{Done, Denied}
-use Rattle.edit.specs.Fresh.{endOf, extensionList, editedList, endFor, freshOf}
-use Rattle.edit.specs.Outcome.{Outcome, tooMuch, changeRows, changeVerdict, editVerdict, fresh, refused, outcomeBy, outcomeOf, answerOf, bufferAfter}
-use Rattle.edit.proofs.Exchanging.{joined-some, joined-units}
-use Rattle.edit.proofs.Cutting.{held, sound, opens}
-use Rattle.edit.proofs.Planning.{length-fresh, outBytes, out-inside, whole-new, much-is}
-use Rattle.edit.proofs.Deciding.{past-by, Allowed, allowed, onward-both}
+use Rattle.edit_plan.specs.Fresh.{endOf, extensionList, editedList, endFor, freshOf}
+use Rattle.edit_plan.specs.Refusals.{tooMuch, changeRows, changeVerdict}
+use Rattle.edit.specs.Outcome.{Outcome, editVerdict, fresh, refused, outcomeBy, outcomeOf, answerOf, bufferAfter}
+use Rattle.edit_plan.proofs.Exchanging.{joined-some, joined-units}
+use Rattle.edit_plan.proofs.Cutting.{held, sound, opens}
+use Rattle.edit_plan.proofs.Planning.{length-fresh, outBytes, out-inside, whole-new, much-is}
+use Rattle.edit_plan.proofs.Deciding.{past-by, Allowed, allowed, onward-both}
 use Rattle.edit.proofs.Splicing.{edited-whole}
 use Rattle.edit.proofs.Keeping.{Apart, before, after, same-bytes, same-order, same-kind, pair-head}
 use Rattle.edit.proofs.Rereading.{Ends, reshaped, shape-is, tail-single, image-moved, image-kept, image-bytes, judged-new, list-new, tail-new}

@@ -3,247 +3,29 @@
 // function carries out all three.
 ghost use mathlib.Core.Path.{_≡_};
 ghost use mathlib.Core.List.{[]};
-ghost use Prim.Native.Nat.{_+_, _≤_, min, max};
+ghost use Prim.Native.Nat.{_+_, _≤_};
 ghost use lib.IntN.{pos};
-ghost use lib.ListN.{length, take, getD};
-ghost use mir.Syntax.{w32};
-ghost use mir.Val.{ofZ};
+ghost use lib.ListN.{length, take};
 ghost use Rattle.field.specs.Numbers.{joined};
-ghost use Rattle.refusal.specs.Table.{refusal};
-ghost use Rattle.refusal.specs.declared.Verdict.the-variants.{Accepted};
-ghost use Rattle.extension.specs.Listing.{noSpan};
-ghost use Rattle.reader.specs.File.{regionEnd};
-ghost use Rattle.reader.specs.Reading.{readingOf};
 ghost use Rattle.buffer.specs.Put.{put};
 ghost use Rattle.buffer.specs.Settled.{settled};
-ghost use Rattle.edit.specs.Fresh.{sizeFor, stored, broughtIn, headFor, freshOf};
-ghost use Rattle.edit.specs.Outcome.{missingIn, offersNegative, outcomeOf, answerOf, bufferAfter};
-ghost use Rattle.edit.specs.Planned.{slotOf, newSize, tooMany, entersBytes, extenderBytes, plannedOf};
-use extension::Span;
+ghost use Rattle.edit_plan.specs.Fresh.{sizeFor, stored, broughtIn, headFor, freshOf};
+ghost use Rattle.edit_plan.specs.Planned.{extenderBytes, plannedOf};
+ghost use Rattle.edit.specs.Outcome.{outcomeOf, answerOf, bufferAfter};
+use edit_plan::Change;
+use edit_plan::Plan;
+use edit_plan::Planned;
 use field::Order;
 use header::Kind;
-use reader::Reading;
 use refusal::Refusal;
-use refusal::Verdict;
-use rules::Image;
 
-// Where the extensions begin, and the most that a file may have.
+// Where the extensions begin.
 const FIRST: usize = 352;
-
-const SPANS: usize = 64;
-
-// Where the region of the extensions may end at most.
-const FARTHEST: usize = 134_217_728;
-
-// Which edit: after the last extension, in the place of a numbered one (the first is 0), or taking that one out.
-pub enum Change {
-    Append,
-    Replace(usize),
-    Remove(usize),
-}
 
 // What an edit answers: the file's new length, or a refusal, which leaves every byte of the buffer as it was.
 pub enum Edited {
     Done(usize),
     Denied(Refusal),
-}
-
-// Where extensions go out, and how many bytes.
-struct Slot {
-    at: usize,
-    old: usize,
-}
-
-// What an edit is carried out by: at the place `at`, `old` bytes go out and `new` bytes come in, and the region of the
-// extensions then ends at `end`.
-struct Plan {
-    order: Order,
-    kind: Kind,
-    at: usize,
-    old: usize,
-    new: usize,
-    end: usize,
-}
-
-enum Planned {
-    Go(Plan),
-    Stop(Refusal),
-}
-
-// The greater of two numbers.
-fn greater(a: usize, b: usize) -> usize
-    ensures { λ r. ⌜ r ≡ max a b ⌝ }
-{
-    if a < b { b } else { a }
-}
-
-// Where the region of the extensions ends, 352 at the least: a header file of 348 bytes has room for an extender.
-fn region_end(kind: Kind, image: Image, len: usize) -> usize
-    ensures { λ r. ⌜ r ≡ max (regionEnd kind image len) 352 ⌝ }
-{
-    match kind {
-        Kind::Single => greater(image.offset as usize, FIRST),
-        Kind::Pair => greater(len, FIRST),
-    }
-}
-
-// Rule 18, in a list of `count`.
-fn is_missing(change: Change, count: usize) -> bool
-    ensures { λ r. ⌜ r ≡ missingIn change count ⌝ }
-{
-    match change {
-        Change::Append => false,
-        Change::Replace(k) => !(k < count),
-        Change::Remove(k) => !(k < count),
-    }
-}
-
-// Rule 19.
-fn offers_negative(change: Change, code: i32) -> bool
-    ensures { λ r. ⌜ r ≡ offersNegative change code ⌝ }
-{
-    match change {
-        Change::Append => code < 0,
-        Change::Replace(_) => code < 0,
-        Change::Remove(_) => false,
-    }
-}
-
-// Rule 20: with a zero extender there are no extensions, and with 1,0,0,0 there are some.
-fn enters_bytes(change: Change, count: usize, end: usize) -> bool
-    ensures { λ r. ⌜ r ≡ entersBytes change count end ⌝ }
-{
-    match change {
-        Change::Append => (count == 0) & (FIRST < end),
-        Change::Replace(_) => false,
-        Change::Remove(_) => false,
-    }
-}
-
-// Rule 21's 65 extensions.
-fn is_too_many(change: Change, count: usize) -> bool
-    ensures { λ r. ⌜ r ≡ tooMany change count ⌝ }
-{
-    match change {
-        Change::Append => SPANS <= count,
-        Change::Replace(_) => false,
-        Change::Remove(_) => false,
-    }
-}
-
-// Where a numbered extension is.
-fn slot_at(spans: [Span; SPANS], k: usize) -> Slot
-    ensures { λ r. ⌜ (r .at ≡ getD spans k noSpan .start) × (r .old ≡ ofZ w32 (getD spans k noSpan .size)) ⌝ }
-{
-    if k < SPANS {
-        let span = spans[k];
-        Slot {
-            at: span.start,
-            old: field::bits32(span.size) as usize,
-        }
-    } else {
-        Slot { at: 0, old: 0 }
-    }
-}
-
-// Where extensions go out, in a list that ends at `end`.
-fn slot_for(change: Change, spans: [Span; SPANS], end: usize) -> Slot
-    ensures { λ r. ⌜ (r .at ≡ slotOf change spans end .at) × (r .old ≡ slotOf change spans end .old) ⌝ }
-{
-    match change {
-        Change::Append => Slot { at: end, old: 0 },
-        Change::Replace(k) => slot_at(spans, k),
-        Change::Remove(k) => slot_at(spans, k),
-    }
-}
-
-// The bytes of an extension with a payload of n bytes. Above the limit of rule 21 the sizes are not told apart.
-fn size_for(n: usize) -> usize
-    ensures { λ r. ⌜ r ≡ min (sizeFor n) 134217744 ⌝ }
-{
-    if FARTHEST < n {
-        134_217_744
-    } else {
-        (n + 23) / 16 * 16
-    }
-}
-
-// How many bytes come in.
-fn new_size(change: Change, n: usize) -> usize
-    ensures { λ r. ⌜ r ≡ min (newSize change n) 134217744 ⌝ }
-{
-    match change {
-        Change::Append => size_for(n),
-        Change::Replace(_) => size_for(n),
-        Change::Remove(_) => 0,
-    }
-}
-
-fn stop(number: u64) -> Planned
-    ensures { λ r. ⌜ r ≡ Planned.Stop (refusal number 0) ⌝ }
-{
-    Planned::Stop(Refusal { number, place: 0 })
-}
-
-// Rules 18 to 22, of a file that reading accepts.
-fn plan_list(
-    file: &[u8],
-    reading: Reading,
-    room: usize,
-    change: Change,
-    code: i32,
-    payload: &[u8],
-) -> Planned
-    requires { ⌜ (reading ≡ readingOf (now file)) × (reading .verdict ≡ Accepted) ⌝ }
-    ensures { λ r. ⌜ r ≡ plannedOf (now (file .entry)) room change code (now (payload .entry)) ⌝ }
-{
-    let header = reading.header;
-    let image = reading.image;
-    let order = header.order;
-    let kind = header.kind;
-    let count = header.count;
-    let spans = header.spans;
-    let end = region_end(kind, image, file.len());
-    if is_missing(change, count) {
-        return stop(18);
-    }
-    if offers_negative(change, code) {
-        return stop(19);
-    }
-    if enters_bytes(change, count, end) {
-        return stop(20);
-    }
-    let out = slot_for(change, spans, end);
-    let at = out.at;
-    let old = out.old;
-    let new = new_size(change, payload.len());
-    let next = end - old + new;
-    if is_too_many(change, count) | (FARTHEST < next) {
-        return stop(21);
-    }
-    if room < greater(file.len(), FIRST) - old + new {
-        return stop(22);
-    }
-    Planned::Go(Plan {
-        order,
-        kind,
-        at,
-        old,
-        new,
-        end: next,
-    })
-}
-
-// Reading's rules, and then those of the edit.
-fn plan_edit(file: &[u8], room: usize, change: Change, code: i32, payload: &[u8]) -> Planned
-    ensures { λ r. ⌜ r ≡ plannedOf (now (file .entry)) room change code (now (payload .entry)) ⌝ }
-{
-    let reading = reader::read(file);
-    let verdict = reading.verdict;
-    match verdict {
-        Verdict::Refused(r) => Planned::Stop(r),
-        Verdict::Accepted => plan_list(file, reading, room, change, code, payload),
-    }
 }
 
 // A whole extension at a place.
@@ -314,7 +96,7 @@ fn splice(
     let old = plan.old;
     let new = plan.new;
     let end = plan.end;
-    let whole = greater(len, FIRST);
+    let whole = edit_plan::greater(len, FIRST);
     buffer::make_room(buf, whole, at, old, new);
     put_new(buf, at, order, change, code, payload);
     put_extender(buf, end);
@@ -334,7 +116,7 @@ pub fn apply(buf: &mut [u8], len: usize, change: Change, code: i32, payload: &[u
         });
     }
     let room = buf.len();
-    let planned = plan_edit(&buf[0..len], room, change, code, payload);
+    let planned = edit_plan::plan_edit(&buf[0..len], room, change, code, payload);
     match planned {
         Planned::Stop(r) => Edited::Denied(r),
         Planned::Go(x) => Edited::Done(splice(buf, len, change, code, payload, x)),

@@ -26,9 +26,9 @@ use Rattle.voxel.specs.declared.Located.the-variants.{At}
 use Rattle.voxel.specs.Voxel.{lengthsOf, voxelBytes, imageRows, locatedAfter, locatedOf, partOf, voxelOf}
 use Rattle.voxel.proofs.Accepted.{record-image}
 use Rattle.voxel.proofs.Theorems.{accepted-located}
-use Rattle.edit.specs.declared.Change.{Change}
+use Rattle.edit_plan.specs.declared.Change.{Change}
 use Rattle.edit.specs.declared.Edited.the-variants.{Done}
-use Rattle.edit.specs.Fresh.{editedList}
+use Rattle.edit_plan.specs.Fresh.{editedList}
 use Rattle.edit.specs.Outcome.{outcomeOf, answerOf, bufferAfter}
 use Rattle.edit.proofs.Theorems.{Renewed, demand-three}
 use Rattle.edit_voxels.specs.Same.{SameAnswer, refused, found}

@@ -14,7 +14,7 @@ ghost use Rattle.voxel.specs.Voxel.{locatedOf};
 ghost use Rattle.timing.specs.Slices.{sliceOf};
 ghost use Rattle.position.specs.Positions.{positionAt};
 ghost use Rattle.byteswap.specs.Swap.{swapAnswer, swappedFile, swappedImage};
-ghost use Rattle.edit.specs.declared.Change.the-variants.{Append, Replace, Remove};
+ghost use Rattle.edit_plan.specs.declared.Change.the-variants.{Append, Replace, Remove};
 ghost use Rattle.edit.specs.Outcome.{outcomeOf, answerOf, bufferAfter};
 ghost use Rattle.vestumbral.specs.Answers.{refusedReply, voxelReply, swapReply, editReply, bigEndian, isPair, shownFile, refusedFile, fileAnswer, refusedExtension, extensionBy, extensionAnswer, sliceAnswer, positionAnswer};
 use edit::Edited;

@@ -21,8 +21,9 @@ use Rattle.timing.specs.Slices.{isStated, firstOf, sliceIn, sliceOf}
 use Rattle.voxel.specs.Voxel.{locatedIn, locatedOf}
 use Rattle.buffer.specs.Put.{put}
 use Rattle.buffer.specs.Settled.{settled}
-use Rattle.edit.specs.Fresh.{sizeFor, stored, endOf, extensionList, tailOf, exchange, editedList, freshFile}
-use Rattle.edit.specs.Outcome.{changeVerdict, outcomeOf, answerOf}
+use Rattle.edit_plan.specs.Fresh.{sizeFor, stored, endOf, extensionList, tailOf, exchange, editedList, freshFile}
+use Rattle.edit_plan.specs.Refusals.{changeVerdict}
+use Rattle.edit.specs.Outcome.{outcomeOf, answerOf}
 use Rattle.worked_numbers.specs.Worked.{zeros, fileWith, fileA, reading, at, ofOffset, ofEdited, note, appended, ranks, slicesFile, ofSlice}
 
 empty-file : reading [] ≡ 1 ∷ 0 ∷ []

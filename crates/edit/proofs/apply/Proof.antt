@@ -1,4 +1,4 @@
--- `apply` meets its contract: 24 is tested first, and then the plan decides (proofs/Deciding.antt); the splice leaves the settled buffer.
+-- `apply` meets its contract: 24 is tested first, and then the plan decides (proofs/Outcomes.antt); the splice leaves the settled buffer.
 use mathlib.Core.Path.{_≡_, sym, ap, _∙_}
 use native.Mathlib.Nat.{sub-zero}
 use denote.Ref.{now}
@@ -7,8 +7,8 @@ use mir.Syntax.{w32}
 use mir.ValLaws.{toZ-ofZ}
 use Rattle.edit.specs.declared.Edited.the-variants.{Done}
 use Rattle.edit.specs.Outcome.{answerOf, bufferAfter}
-use Rattle.edit.specs.Planned.{plannedOf}
-use Rattle.edit.proofs.Deciding.{outcome-24, outcome-stop, outcome-go}
+use Rattle.edit_plan.specs.Planned.{plannedOf}
+use Rattle.edit.proofs.Outcomes.{outcome-24, outcome-stop, outcome-go}
 use borrow.Author.Needs.{needs}
 use Rattle.edit.proofs.apply.Statement.{statement}
 use Rattle.edit.proofs.apply.Tie as tie

@@ -8,10 +8,10 @@ use mir.Syntax.{w32}
 use mir.ValLaws.{toZ-ofZ}
 use Rattle.buffer.specs.Put.{put}
 use Rattle.buffer.proofs.Laws.{put-nil}
-use Rattle.edit.specs.declared.Change.{Change}
-use Rattle.edit.specs.Fresh.{stored}
-use Rattle.edit.specs.Planned.{newSize}
-use Rattle.edit.proofs.Planning.{length-new}
+use Rattle.edit_plan.specs.declared.Change.{Change}
+use Rattle.edit_plan.specs.Fresh.{stored}
+use Rattle.edit_plan.specs.Planned.{newSize}
+use Rattle.edit_plan.proofs.Planning.{length-new}
 use borrow.Author.Needs.{needs}
 use Rattle.edit.proofs.put_new.Statement.{statement}
 use Rattle.edit.proofs.put_new.Tie as tie

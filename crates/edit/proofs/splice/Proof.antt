@@ -8,9 +8,9 @@ use lib.ListN.{length, take}
 use mir.Syntax.{w32}
 use mir.Val.{toZ, ofZ}
 use Rattle.reader.specs.File.{orderOf}
-use Rattle.edit.specs.Planned.{newSize}
-use Rattle.edit.proofs.Planning.{length-new}
-use Rattle.edit.proofs.Deciding.{Allowed, allowed, planned}
+use Rattle.edit_plan.specs.Planned.{newSize}
+use Rattle.edit_plan.proofs.Planning.{length-new}
+use Rattle.edit_plan.proofs.Deciding.{Allowed, allowed, planned}
 use Rattle.edit.proofs.Splicing.{Carries, carries, Sizes, sizes, spliced}
 use borrow.Author.Needs.{needs}
 use Rattle.edit.proofs.splice.Statement.{statement}

@@ -1,7 +1,7 @@
 -- `region_end` meets its contract, by the kind.
 use borrow.Author.Needs.{needs}
-use Rattle.edit.proofs.region_end.Statement.{statement}
-use Rattle.edit.proofs.region_end.Tie as tie
+use Rattle.edit_plan.proofs.region_end.Statement.{statement}
+use Rattle.edit_plan.proofs.region_end.Tie as tie
 
 enum-told : tie.Need-enum-told
 enum-told c = search needs

@@ -1,7 +1,7 @@
 -- `enters_bytes` meets its contract: only an append is asked.
 use borrow.Author.Needs.{needs}
-use Rattle.edit.proofs.enters_bytes.Statement.{statement}
-use Rattle.edit.proofs.enters_bytes.Tie as tie
+use Rattle.edit_plan.proofs.enters_bytes.Statement.{statement}
+use Rattle.edit_plan.proofs.enters_bytes.Tie as tie
 
 enum-told : tie.Need-enum-told
 enum-told c = search needs

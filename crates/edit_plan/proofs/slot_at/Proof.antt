@@ -6,8 +6,8 @@ use mir.Val.{toZ, ofZ}
 use Rattle.extension.specs.declared.Span.{Span}
 use Rattle.extension.specs.Listing.{noSpan}
 use borrow.Author.Needs.{needs}
-use Rattle.edit.proofs.slot_at.Statement.{statement}
-use Rattle.edit.proofs.slot_at.Tie as tie
+use Rattle.edit_plan.proofs.slot_at.Statement.{statement}
+use Rattle.edit_plan.proofs.slot_at.Tie as tie
 
 -- a signed field, as it is passed on
 same : (c : tie.After-struct-told) → toZ w32 (ofZ w32 (getD (c .before .before .before .args .t1) (c .before .before .before .args .k) noSpan .size)) ≡ getD (c .before .before .before .args .t1) (c .before .before .before .args .k) noSpan .size

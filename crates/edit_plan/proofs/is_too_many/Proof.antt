@@ -1,7 +1,7 @@
 -- `is_too_many` meets its contract: only an append adds one.
 use borrow.Author.Needs.{needs}
-use Rattle.edit.proofs.is_too_many.Statement.{statement}
-use Rattle.edit.proofs.is_too_many.Tie as tie
+use Rattle.edit_plan.proofs.is_too_many.Statement.{statement}
+use Rattle.edit_plan.proofs.is_too_many.Tie as tie
 
 enum-told : tie.Need-enum-told
 enum-told c = search needs

@@ -9,7 +9,7 @@ use lib.Seq.{take-at, drop-at, take-take, take-suc}
 use Rattle.field.specs.declared.Order.{Order}
 use Rattle.field.specs.Numbers.{joined}
 use Rattle.extension.specs.Pieces.{Wholes, none, one}
-use Rattle.edit.specs.Fresh.{exchange}
+use Rattle.edit_plan.specs.Fresh.{exchange}
 
 joined-append : (xs ys : List (List ℕ)) → joined (xs ++ ys) ≡ joined xs ++ joined ys
 joined-append [] ys = refl

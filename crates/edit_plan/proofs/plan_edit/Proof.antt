@@ -2,10 +2,10 @@
 use mir.Syntax.{w32}
 use mir.ValLaws.{toZ-ofZ}
 use denote.Ref.{now}
-use Rattle.edit.proofs.Deciding.{stops-unread}
+use Rattle.edit_plan.proofs.Deciding.{stops-unread}
 use borrow.Author.Needs.{needs}
-use Rattle.edit.proofs.plan_edit.Statement.{statement}
-use Rattle.edit.proofs.plan_edit.Tie as tie
+use Rattle.edit_plan.proofs.plan_edit.Statement.{statement}
+use Rattle.edit_plan.proofs.plan_edit.Tie as tie
 
 read-requires : tie.Need-read-requires
 read-requires c κs = search needs

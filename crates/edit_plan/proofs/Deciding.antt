@@ -7,7 +7,7 @@ use native.Mathlib.Omega.{arith}
 use borrow.Author.Tests.{ltb-false, lt-ltb, le-ltb}
 use lib.Dec.{ltb}
 use lib.IntN.{ℤ}
-use lib.ListN.{length, take}
+use lib.ListN.{length}
 use Rattle.field.specs.Numbers.{joined}
 use Rattle.refusal.specs.declared.Refusal.{Refusal}
 use Rattle.refusal.specs.declared.Verdict.{Verdict}
@@ -20,15 +20,15 @@ use Rattle.extension.specs.Walk.{extensionLimit, firstPlace, listed}
 use Rattle.reader.specs.declared.Reading.{Reading}
 use Rattle.reader.specs.File.{orderOf, regionEnd, judgement}
 use Rattle.reader.specs.Reading.{readingOf}
-use Rattle.edit.specs.declared.Change.{Change}
-use Rattle.edit.specs.declared.Plan.{Plan}
-use Rattle.edit.specs.declared.Planned.{Planned}
-use Rattle.edit.specs.declared.Planned.the-variants.{Go, Stop}
-use Rattle.edit.specs.Fresh.{endOf, extensionList, outFrom, broughtIn, editedList, endFor, freshOf}
-use Rattle.edit.specs.Outcome.{missingIn, offersNegative, entersPrivate, tooMuch, onward, changeRows, changeVerdict, fresh, refused, outcomeBy, outcomeOf}
-use Rattle.edit.specs.Planned.{entersBytes, tooMany, slotOf, newSize, bytesBefore, planOf, plannedBy, plannedOf}
-use Rattle.edit.proofs.Cutting.{Held, held, sound, opens, length-list, Cut, end-small}
-use Rattle.edit.proofs.Planning.{length-new, slot-is, enters-is, cut-by, outBytes, end-new, whole-new, much-is}
+use Rattle.edit_plan.specs.declared.Change.{Change}
+use Rattle.edit_plan.specs.declared.Plan.{Plan}
+use Rattle.edit_plan.specs.declared.Planned.{Planned}
+use Rattle.edit_plan.specs.declared.Planned.the-variants.{Go, Stop}
+use Rattle.edit_plan.specs.Fresh.{endOf, extensionList, outFrom, broughtIn, editedList, endFor, freshOf}
+use Rattle.edit_plan.specs.Refusals.{missingIn, offersNegative, entersPrivate, tooMuch, onward, changeRows, changeVerdict}
+use Rattle.edit_plan.specs.Planned.{entersBytes, tooMany, slotOf, newSize, bytesBefore, planOf, plannedBy, plannedOf}
+use Rattle.edit_plan.proofs.Cutting.{Held, held, sound, opens, length-list, Cut, end-small}
+use Rattle.edit_plan.proofs.Planning.{length-new, slot-is, enters-is, cut-by, outBytes, end-new, whole-new, much-is}
 
 -- ---- the table, row by row
 
@@ -211,10 +211,6 @@ planned-by : (v : Verdict) (x y : Plan) → plannedBy v x ≡ Go y → (v ≡ Ac
 planned-by Accepted x y e = (refl, cc)
 planned-by (Refused r) x y e = let z : _≡_ {A = ℕ} 0 1 = cc in absurd (omega arith)
 
-stopped-by : (v : Verdict) (x : Plan) (r : Refusal) → plannedBy v x ≡ Stop r → v ≡ Refused r
-stopped-by Accepted x r e = let z : _≡_ {A = ℕ} 0 1 = cc in absurd (omega arith)
-stopped-by (Refused q) x r e = cc
-
 module _ (f : List ℕ) (room : ℕ) (change : Change) (code : ℤ) (p : List ℕ) where
   allowed-clear : (ss : List Span) → judgement f ≡ listed ss → Clear (changeRows f room change code p) → Allowed f room change code p
   allowed-clear ss j (one m (one n (one e (one t (one l none))))) =
@@ -237,24 +233,3 @@ module _ (f : List ℕ) (room : ℕ) (change : Change) (code : ℤ) (p : List �
   pub planned : (x : Plan) → plannedOf f room change code p ≡ Go x → (changeVerdict f room change code p ≡ Accepted) × (planOf f change code p ≡ x)
   unfolding plannedOf
   planned x e = planned-by (changeVerdict f room change code p) (planOf f change code p) x e
-
--- ---- the outcome of an edit, by its plan
-
-module _ (l : List ℕ) (len : ℕ) (change : Change) (code : ℤ) (p : List ℕ) where
-  pub outcome-24 : length l < len → outcomeOf l len change code p ≡ refused (refusal 24 0)
-  unfolding outcomeOf verdict
-  outcome-24 h = rw (lt-ltb (length l) len h)
-
-  outcome-is : len ≤ length l → (v : Verdict) → changeVerdict (take len l) (length l) change code p ≡ v
-      → outcomeOf l len change code p ≡ outcomeBy v (freshOf (take len l) change code p)
-  unfolding outcomeOf verdict
-  outcome-is h v e = rw (le-ltb (length l) len h, e)
-
-  pub outcome-stop : len ≤ length l → (r : Refusal) → plannedOf (take len l) (length l) change code p ≡ Stop r → outcomeOf l len change code p ≡ refused r
-  unfolding plannedOf
-  outcome-stop h r e =
-      outcome-is h (Refused r) (stopped-by (changeVerdict (take len l) (length l) change code p) (planOf (take len l) change code p) r e)
-
-  pub outcome-go : len ≤ length l → (x : Plan) → plannedOf (take len l) (length l) change code p ≡ Go x
-      → outcomeOf l len change code p ≡ fresh (freshOf (take len l) change code p)
-  outcome-go h x e = outcome-is h Accepted (planned (take len l) (length l) change code p x e .0)

@@ -1,5 +1,5 @@
--- What is known of an edit before the first byte is stored: its refusal, or the numbers that it is carried out by. The public promises
--- do not speak of these; they are the promises of the steps between.
+-- What is known of an edit before the first byte is stored: its refusal, or the numbers that it is carried out by. The promises
+-- of append, replace and remove do not speak of these; they are the promises of the steps between.
 use Prim.Native.Nat.{ℕ, _+_, _-_}
 use mathlib.Core.Bool.{Bool, false, cond, _&&_}
 use mathlib.Core.List.{List}
@@ -15,14 +15,14 @@ use Rattle.extension.specs.declared.Span.{Span}
 use Rattle.extension.specs.Walk.{extensionLimit, firstPlace}
 use Rattle.extension.specs.Listing.{noSpan}
 use Rattle.reader.specs.File.{orderOf, kindOf, noExtensions, someExtensions}
-use Rattle.edit.specs.declared.Change.{Change}
-use Rattle.edit.specs.declared.Change.the-variants.{Append, Replace, Remove}
-use Rattle.edit.specs.declared.Slot.{Slot}
-use Rattle.edit.specs.declared.Plan.{Plan}
-use Rattle.edit.specs.declared.Planned.{Planned}
-use Rattle.edit.specs.declared.Planned.the-variants.{Go, Stop}
-use Rattle.edit.specs.Fresh.{sizeFor, extensionList, outFrom, outTo, broughtIn, editedList, endFor}
-use Rattle.edit.specs.Outcome.{changeVerdict}
+use Rattle.edit_plan.specs.declared.Change.{Change}
+use Rattle.edit_plan.specs.declared.Change.the-variants.{Append, Replace, Remove}
+use Rattle.edit_plan.specs.declared.Slot.{Slot}
+use Rattle.edit_plan.specs.declared.Plan.{Plan}
+use Rattle.edit_plan.specs.declared.Planned.{Planned}
+use Rattle.edit_plan.specs.declared.Planned.the-variants.{Go, Stop}
+use Rattle.edit_plan.specs.Fresh.{sizeFor, extensionList, outFrom, outTo, broughtIn, editedList, endFor}
+use Rattle.edit_plan.specs.Refusals.{changeVerdict}
 
 -- rule 20 by the number of extensions and the region's end
 abbrev pub entersBytes : Change → ℕ → ℕ → Bool

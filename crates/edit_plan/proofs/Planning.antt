@@ -26,14 +26,14 @@ use Rattle.header.specs.declared.Kind.{Kind}
 use Rattle.header.specs.declared.Kind.the-variants.{Single, Pair}
 use Rattle.reader.specs.File.{orderOf, kindOf, hasNone, judgement}
 use Rattle.buffer.proofs.Laws.{length-put}
-use Rattle.edit.specs.declared.Change.{Change}
-use Rattle.edit.specs.declared.Change.the-variants.{Append, Replace, Remove}
-use Rattle.edit.specs.Fresh.{endOf, extensionList, tailOf, outFrom, outTo, broughtIn, editedList, extenderFor, endFor, headFor, freshFile, freshOf}
-use Rattle.edit.specs.Outcome.{missingIn, entersPrivate, tooMuch}
-use Rattle.edit.specs.Planned.{entersBytes, tooMany, slotOf, newSize, bytesBefore}
-use Rattle.edit.proofs.Exchanging.{before-all, before-later, before-next, length-exchange, bytes-exchange}
-use Rattle.edit.proofs.Storing.{length-stored}
-use Rattle.edit.proofs.Cutting.{opens, length-list, none-listed, Cut, cut}
+use Rattle.edit_plan.specs.declared.Change.{Change}
+use Rattle.edit_plan.specs.declared.Change.the-variants.{Append, Replace, Remove}
+use Rattle.edit_plan.specs.Fresh.{endOf, extensionList, tailOf, outFrom, outTo, broughtIn, editedList, extenderFor, endFor, headFor, freshFile, freshOf}
+use Rattle.edit_plan.specs.Refusals.{missingIn, entersPrivate, tooMuch}
+use Rattle.edit_plan.specs.Planned.{entersBytes, tooMany, slotOf, newSize, bytesBefore}
+use Rattle.edit_plan.proofs.Exchanging.{before-all, before-later, before-next, length-exchange, bytes-exchange}
+use Rattle.edit_plan.proofs.Sizing.{length-stored}
+use Rattle.edit_plan.proofs.Cutting.{opens, length-list, none-listed, Cut, cut}
 
 -- ---- the length of a fresh file
 

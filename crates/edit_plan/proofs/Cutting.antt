@@ -30,8 +30,8 @@ use Rattle.reader.specs.declared.Reading.{Reading}
 use Rattle.reader.specs.File.{orderOf, kindOf, shapeOf, cutShort, cutExtender, hasNone, hasExtensions, shapeIn, fileRows, layoutOf, regionEnd, extensionsOf, judgement}
 use Rattle.reader.specs.Reading.{readingBy, readingOf}
 use Rattle.reader.proofs.Accepted.{listed-by}
-use Rattle.edit.specs.Fresh.{endOf, extensionList, tailBy, tailOf}
-use Rattle.edit.proofs.Exchanging.{joined-some}
+use Rattle.edit_plan.specs.Fresh.{endOf, extensionList, tailBy, tailOf}
+use Rattle.edit_plan.proofs.Exchanging.{joined-some}
 
 -- ---- what an accepted reading holds
 

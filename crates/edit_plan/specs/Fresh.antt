@@ -17,8 +17,8 @@ use Rattle.header.specs.declared.Kind.the-variants.{Single, Pair}
 use Rattle.rules.specs.Rules.{imageOf}
 use Rattle.reader.specs.File.{orderOf, kindOf, shapeOf, regionEnd, judgement, noExtensions, someExtensions}
 use Rattle.buffer.specs.Put.{put}
-use Rattle.edit.specs.declared.Change.{Change}
-use Rattle.edit.specs.declared.Change.the-variants.{Append, Replace, Remove}
+use Rattle.edit_plan.specs.declared.Change.{Change}
+use Rattle.edit_plan.specs.declared.Change.the-variants.{Append, Replace, Remove}
 
 -- "its size the least multiple of 16 that is at least L + 8" (the law `size-least` says so)
 abbrev pub sizeFor : ℕ → ℕ

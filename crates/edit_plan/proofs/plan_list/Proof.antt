@@ -2,18 +2,18 @@
 use mathlib.Core.Bool.{Bool}
 use mir.Syntax.{w32}
 use mir.ValLaws.{toZ-ofZ}
-use Rattle.edit.specs.Outcome.{offersNegative}
+use Rattle.edit_plan.specs.Refusals.{offersNegative}
 use Prim.Native.Nat.{ℕ}
 use mathlib.Core.Path.{_≡_, sym, _∙_}
 use mathlib.Core.List.{List}
 use native.Mathlib.Omega.{arith}
 use denote.Ref.{now}
-use Rattle.edit.specs.declared.Change.{Change}
-use Rattle.edit.proofs.Planning.{out-inside}
-use Rattle.edit.proofs.Deciding.{Past, Numbers, past, numbers, on-18, on-19, on-20, on-21, on-22, on-go}
+use Rattle.edit_plan.specs.declared.Change.{Change}
+use Rattle.edit_plan.proofs.Planning.{out-inside}
+use Rattle.edit_plan.proofs.Deciding.{Past, Numbers, past, numbers, on-18, on-19, on-20, on-21, on-22, on-go}
 use borrow.Author.Needs.{needs}
-use Rattle.edit.proofs.plan_list.Statement.{statement}
-use Rattle.edit.proofs.plan_list.Tie as tie
+use Rattle.edit_plan.proofs.plan_list.Statement.{statement}
+use Rattle.edit_plan.proofs.plan_list.Tie as tie
 
 -- the file, the edit and the numbers, once all of them are known
 abbrev file-at : tie.After-new-size → List ℕ

@@ -1,0 +1,3 @@
+pub mod Fresh
+pub mod Refusals
+pub mod Planned
