@@ -13,14 +13,12 @@ ghost use Rattle.edit_plan.specs.Fresh.{sizeFor, stored, broughtIn, headFor, fr
 ghost use Rattle.edit_plan.specs.Planned.{extenderBytes, plannedOf};
 ghost use Rattle.edit.specs.Outcome.{outcomeOf, answerOf, bufferAfter};
 use edit_plan::Change;
+use edit_plan::FIRST;
 use edit_plan::Plan;
 use edit_plan::Planned;
 use field::Order;
 use header::Kind;
 use refusal::Refusal;
-
-// Where the extensions begin.
-const FIRST: usize = 352;
 
 // What an edit answers: the file's new length, or a refusal, which leaves every byte of the buffer as it was.
 pub enum Edited {

@@ -22,7 +22,7 @@ use refusal::Verdict;
 use rules::Image;
 
 // Where the extensions begin, and the most that a file may have.
-const FIRST: usize = 352;
+pub const FIRST: usize = 352;
 
 const SPANS: usize = 64;
 
