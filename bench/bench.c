@@ -13,6 +13,7 @@
  * timing, so that the compiler takes the tests of the other indexes, all 0, out of the loop; by file it reads for each voxel.
  */
 #define _POSIX_C_SOURCE 200809L
+#include "../tests/nifti.h"
 #include "vestumbral.h"
 
 #include <math.h>
@@ -73,23 +74,6 @@ static void row(const char *name, const char *input, way *const ways[WAYS], int 
     fflush(stdout);
 }
 
-static void put16(uint8_t *to, int value)
-{
-    to[0] = value & 255;
-    to[1] = value >> 8 & 255;
-}
-
-static void put32(uint8_t *to, uint32_t value)
-{
-    put16(to, value & 65535);
-    put16(to + 2, value >> 16);
-}
-
-static uint32_t get32(const uint8_t *from)
-{
-    return from[0] | from[1] << 8 | from[2] << 16 | (uint32_t)from[3] << 24;
-}
-
 static int get16(const uint8_t *from)
 {
     return (int16_t)(from[0] | from[1] << 8);
@@ -99,19 +83,10 @@ static int get16(const uint8_t *from)
 static size_t make(int extensions, const int dims[4], int datatype, int bitpix)
 {
     size_t offset = 352 + 32 * (size_t)extensions, bytes = bitpix / 8;
-    float stored = offset;
-    uint32_t bits;
-    memcpy(&bits, &stored, 4);
-    memset(work, 0, 352);
-    put32(work, 348);
-    for (int i = 0; i < 4; i++) {
-        put16(work + 40 + 2 * i, dims[i]);
-        bytes *= i ? dims[i] : 1;
-    }
-    put16(work + 70, datatype);
-    put16(work + 72, bitpix);
-    put32(work + 108, bits);
-    memcpy(work + 344, "n+1", 4);
+    for (int i = 1; i < 4; i++)
+        bytes *= dims[i];
+    header(work, 0, dims, datatype, bitpix, float_bits(offset));
+    memset(work + 348, 0, 4);
     work[348] = extensions > 0;
     for (int i = 0; i < extensions; i++) {
         put32(work + 352 + 32 * i, 32);

@@ -3,6 +3,7 @@
  * on each side"). Buffers come from the heap, under the address sanitizer, and once more from memory that ends at a page which may
  * not be touched: the library is not built with the sanitizer, so only the second way sees each of its own reads and writes.
  */
+#include "../nifti.h"
 #include "vestumbral.h"
 
 #include <stdio.h>
@@ -48,38 +49,6 @@ static int all(const uint8_t *bytes, uint8_t value, size_t length)
         if (bytes[i] != value)
             return 0;
     return 1;
-}
-
-static void put16(uint8_t *to, unsigned value)
-{
-    to[0] = value & 255;
-    to[1] = value >> 8 & 255;
-}
-
-static void put32(uint8_t *to, uint32_t value)
-{
-    put16(to, value & 65535);
-    put16(to + 2, value >> 16);
-}
-
-static uint32_t bits(float value)
-{
-    uint32_t to;
-    memcpy(&to, &value, sizeof to);
-    return to;
-}
-
-/* A little-endian header without extensions; dims has dim[0] first. */
-static void header(uint8_t *file, int pair, const int *dims, int datatype, int bitpix, uint32_t offset)
-{
-    memset(file, 0, 348);
-    put32(file, 348);
-    for (int i = 0; i <= dims[0]; i++)
-        put16(file + 40 + 2 * i, dims[i]);
-    put16(file + 70, datatype);
-    put16(file + 72, bitpix);
-    put32(file + 108, offset);
-    memcpy(file + 344, pair ? "ni1" : "n+1", 4);
 }
 
 /* File A of 01-scope.md, 364 bytes; its image bytes are 1 to 12. */
@@ -130,10 +99,10 @@ static void too_short(uint8_t *bytes, size_t length)
     CHECK(extension.start == 0 && extension.size == 0 && extension.code == 0);
     vestumbral_slice slice = vestumbral_slice_at(bytes, length, 0);
     REFUSED(slice, 1, 0);
-    CHECK(slice.state == 0 && slice.rank == 0 && bits(slice.seconds) == 0);
+    CHECK(slice.state == 0 && slice.rank == 0 && float_bits(slice.seconds) == 0);
     vestumbral_position position = vestumbral_position_of(bytes, length, 0, 0, 0);
     REFUSED(position, 1, 0);
-    CHECK(bits(position.x) == 0 && bits(position.y) == 0 && bits(position.z) == 0);
+    CHECK(float_bits(position.x) == 0 && float_bits(position.y) == 0 && float_bits(position.z) == 0);
     CHECK(refused(vestumbral_voxel(bytes, length, NULL, 0, 0, 0, 0, 0, 0, 0, 0), 1));
     CHECK(refused(vestumbral_swap(bytes, length, NULL, 0), 1));
     CHECK(refused(vestumbral_append(bytes, length, length, 0, NULL, 0), 1));
@@ -353,7 +322,7 @@ static void slices(enum source source)
             vestumbral_slice slice = vestumbral_slice_at(file, 348, s);
             unsigned rank = s >= 1 && s <= 5 ? ranks[code - 1][s - 1] : 0;
             CHECK(slice.refusal == 0 && slice.place == 0 && slice.state == (s >= 1 && s <= 5 ? 2u : 1u));
-            CHECK(slice.rank == rank && bits(slice.seconds) == times[rank]);
+            CHECK(slice.rank == rank && float_bits(slice.seconds) == times[rank]);
         }
         REFUSED(vestumbral_slice_at(file, 348, 7), 17, 0);
     }
@@ -373,7 +342,7 @@ static void positions(enum source source)
     put16(file + 254, 1);
     vestumbral_position position = vestumbral_position_of(file, 348, 185, 206, 59);
     REFUSED(position, 0, 0);
-    CHECK(bits(position.x) == 0x42be0000 && bits(position.y) == 0xc2a00000 && bits(position.z) == 0x42c2947a);
+    CHECK(float_bits(position.x) == 0x42be0000 && float_bits(position.y) == 0xc2a00000 && float_bits(position.z) == 0x42c2947a);
     REFUSED(vestumbral_position_of(file, 348, 0, 0, UINT64_MAX), 17, 0);
     put32(file + 280, 0x7f800000);
     REFUSED(vestumbral_position_of(file, 348, 0, 0, 0), 23, 0);

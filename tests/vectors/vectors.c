@@ -3,6 +3,7 @@
  * printed, one line an answer; vectors.out has what they should be. Three stand elsewhere: document 004's slice table and the row
  * that shows the order of rounding in the program slice_table, and the record written back in the program header_copy.
  */
+#include "../nifti.h"
 #include "vestumbral.h"
 
 #include <stdio.h>
@@ -12,41 +13,11 @@ enum { SINGLE, PAIR };
 
 static uint8_t file[4096];
 
-static void put16(size_t at, int value)
-{
-    file[at] = value & 255;
-    file[at + 1] = value >> 8 & 255;
-}
-
-static void put32(size_t at, uint32_t value)
-{
-    put16(at, value & 65535);
-    put16(at + 2, value >> 16);
-}
-
-static void put_float(size_t at, float value)
-{
-    uint32_t bits;
-    memcpy(&bits, &value, 4);
-    put32(at, bits);
-}
-
-static uint32_t get32(size_t at)
-{
-    return file[at] | file[at + 1] << 8 | file[at + 2] << 16 | (uint32_t)file[at + 3] << 24;
-}
-
-/* A little-endian header; dims are dim[0], dim[1] .. dim[dim[0]]. All else is zero. */
-static void header(int kind, const int *dims, int datatype, int bitpix, float offset)
+/* A header in `file`, and nothing behind it. */
+static void start(int kind, const int *dims, int datatype, int bitpix, float offset)
 {
     memset(file, 0, sizeof file);
-    put32(0, 348);
-    for (int i = 0; i <= dims[0]; i++)
-        put16(40 + 2 * i, dims[i]);
-    put16(70, datatype);
-    put16(72, bitpix);
-    put_float(108, offset);
-    memcpy(file + 344, kind == PAIR ? "ni1" : "n+1", 4);
+    header(file, kind == PAIR, dims, datatype, bitpix, float_bits(offset));
 }
 
 #define DIMS(...) ((const int[]){__VA_ARGS__})
@@ -93,24 +64,24 @@ static void dims(void)
     static const int types[3][2] = {{2, 8}, {4, 16}, {16, 32}};
     for (int i = 0; i < 5; i++)
         for (int t = 0; t < 3; t++) {
-            header(PAIR, examples[i].dims, types[t][0], types[t][1], 0);
+            start(PAIR, examples[i].dims, types[t][0], types[t][1], 0);
             for (int axis = 1; axis < 8; axis++)
-                put_float(76 + 4 * axis, axis == 4 ? 0 : 1); /* pixdim[4] = 0.0, as the 3-vector example has it */
+                put32(file + 76 + 4 * axis, float_bits(axis == 4 ? 0 : 1)); /* pixdim[4] = 0.0, as the 3-vector example has it */
             show(examples[i].name, 348);
         }
 }
 
 static void places(void)
 {
-    header(PAIR, DIMS(5, 64, 64, 20, 1, 3), 16, 32, 0);
+    start(PAIR, DIMS(5, 64, 64, 20, 1, 3), 16, 32, 0);
     show("VECTOR", 348);
     for (int c = 0; c < 3; c++)
         voxel("VECTOR", 983040, 0, 0, 0, 0, c);
     voxel("VECTOR", 983039, 0, 0, 0, 0, 0);
-    header(PAIR, DIMS(5, 128, 128, 1, 1, 2), 16, 32, 0);
+    start(PAIR, DIMS(5, 128, 128, 1, 1, 2), 16, 32, 0);
     show("TTEST", 348);
     voxel("TTEST", 131072, 0, 0, 0, 0, 1);
-    header(PAIR, DIMS(3, 5, 4, 3), 512, 16, 352);
+    start(PAIR, DIMS(3, 5, 4, 3), 512, 16, 352);
     voxel("three dims", 472, 0, 0, 0, 0, 0);
     voxel("three dims", 472, 1, 0, 0, 0, 0);
     voxel("three dims", 472, 0, 1, 0, 0, 0);
@@ -124,12 +95,12 @@ static void slice_axis(void)
 {
     static const int infos[2] = {1 | 2 << 2 | 3 << 4, 3 << 4};
     for (int i = 0; i < 2; i++) {
-        header(PAIR, DIMS(3, 2, 2, 7), 4, 16, 0);
+        start(PAIR, DIMS(3, 2, 2, 7), 4, 16, 0);
         file[39] = infos[i];
         file[122] = 1;
-        put16(74, 1);
-        put16(120, 5);
-        put_float(132, 0.1f);
+        put16(file + 74, 1);
+        put16(file + 120, 5);
+        put32(file + 132, float_bits(0.1f));
         printf("dim_info %02X:", infos[i]);
         for (int s = 0; s < 8; s++) {
             vestumbral_slice a = vestumbral_slice_at(file, 348, s);
@@ -146,8 +117,8 @@ static void offsets(void)
     for (size_t i = 0; i < sizeof bits / sizeof *bits; i++)
         for (int kind = SINGLE; kind <= PAIR; kind++) {
             char what[32];
-            header(kind, DIMS(1, 1), 2, 8, 0);
-            put32(108, bits[i]);
+            start(kind, DIMS(1, 1), 2, 8, 0);
+            put32(file + 108, bits[i]);
             snprintf(what, sizeof what, "offset %08X", bits[i]);
             show(what, kind == PAIR ? 348 : 353);
         }
@@ -159,12 +130,12 @@ static void extensions(void)
     static const int32_t sizes[3] = {32, 16, 48};
     static const int32_t codes[] = {0, 2, 4, 6, 8, 10, 12, 2147483646, 1, 2147483647};
     size_t at = 352;
-    header(PAIR, DIMS(1, 1), 2, 8, 0);
+    start(PAIR, DIMS(1, 1), 2, 8, 0);
     file[348] = 1;
     for (size_t i = 0; i < sizeof codes / sizeof *codes; i++) {
         int32_t size = i < 3 ? sizes[i] : 16;
-        put32(at, size);
-        put32(at + 4, codes[i]);
+        put32(file + at, size);
+        put32(file + at + 4, codes[i]);
         at += size;
     }
     show("extensions", at);
@@ -176,10 +147,10 @@ static void extensions(void)
 
 static void image_limit(void)
 {
-    header(PAIR, DIMS(3, 16384, 16384, 4096), 2, 8, 0);
+    start(PAIR, DIMS(3, 16384, 16384, 4096), 2, 8, 0);
     show("pair of 2^40 voxels", 348);
-    put16(70, 4);
-    put16(72, 16);
+    put16(file + 70, 4);
+    put16(file + 72, 16);
     show("pair of 2^40 voxels", 348);
 }
 
@@ -187,8 +158,8 @@ static void append(void)
 {
     file_a();
     vestumbral_reply r = vestumbral_append(file, sizeof file, 364, 6, (const uint8_t *)"hello", 5);
-    printf("append of 5 bytes to A: refusal %d, length %d, size %u, vox_offset %08X\n", (int)r.refusal, (int)r.length, get32(352),
-           get32(108));
+    printf("append of 5 bytes to A: refusal %d, length %d, size %u, vox_offset %08X\n", (int)r.refusal, (int)r.length, get32(file + 352),
+           get32(file + 108));
     show("A then", r.length);
     vestumbral_reply v = vestumbral_voxel(file, r.length, NULL, 0, 2, 1, 0, 0, 0, 0, 0);
     printf("A then, voxel (2,1): refusal %d, place %d, length %d\n", (int)v.refusal, (int)v.place, (int)v.length);
@@ -198,7 +169,7 @@ static void append(void)
 static void swap(void)
 {
     file_a();
-    put32(32, 16384);
+    put32(file + 32, 16384);
     file[123] = 2 | 8;
     for (int turn = 0; turn < 3; turn++) {
         if (turn)
@@ -211,11 +182,11 @@ static void swap(void)
 /* srow is diag(1, -1, -1) with a whole shift. */
 static void position(void)
 {
-    header(PAIR, DIMS(3, 10, 10, 10), 4, 16, 0);
-    put16(254, 1);
+    start(PAIR, DIMS(3, 10, 10, 10), 4, 16, 0);
+    put16(file + 254, 1);
     for (int row = 0; row < 3; row++) {
-        put_float(280 + 20 * row, row ? -1 : 1);
-        put_float(292 + 16 * row, 100 * row - 90);
+        put32(file + 280 + 20 * row, float_bits(row ? -1 : 1));
+        put32(file + 292 + 16 * row, float_bits(100 * row - 90));
     }
     static const int at[3][3] = {{0, 0, 0}, {3, 4, 5}, {9, 9, 9}};
     for (int i = 0; i < 3; i++) {
