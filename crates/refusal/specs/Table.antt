@@ -19,6 +19,17 @@ row n test p = record { number = n; test = test; place = p }
 abbrev pub refusal : ℕ → ℕ → Refusal
 refusal n p = record { number = n; place = p }
 
+-- the verdict of a table
 unfoldable pub verdict : List Row → Verdict
 verdict [] = Accepted
 verdict (r ∷ rs) = cond (r .test) (Refused (refusal (r .number) (r .place))) (verdict rs)
+
+-- What a call answers by a verdict: one thing where it accepts, and what it makes of the refusal where it refuses. Every answer of
+-- the library is put together by this.
+abbrev pub decided {ℓ} : {A : Type ℓ} → Verdict → A → (Refusal → A) → A
+decided Accepted a f = a
+decided (Refused r) a f = f r
+
+-- "Checks run in number order": the second verdict counts where the first accepts
+abbrev pub then : Verdict → Verdict → Verdict
+then v w = decided v w Refused

@@ -1,0 +1,25 @@
+// Small numbers' tools that several crates share: the lesser and the greater of two, and a signed 16-bit number as a length.
+ghost use mathlib.Core.Path.{_≡_};
+ghost use Prim.Native.Nat.{_≤_, min, max};
+ghost use Rattle.number.specs.Natural.{naturalOf};
+
+// The lesser of two numbers.
+pub fn lesser(a: usize, b: usize) -> usize
+    ensures { λ r. ⌜ r ≡ min a b ⌝ }
+{
+    if a < b { a } else { b }
+}
+
+// The greater of two numbers.
+pub fn greater(a: usize, b: usize) -> usize
+    ensures { λ r. ⌜ r ≡ max a b ⌝ }
+{
+    if a < b { b } else { a }
+}
+
+// A signed number as an unsigned one: 0 where it is negative.
+pub fn natural(z: i16) -> u64
+    ensures { λ r. ⌜ (r ≡ naturalOf z) × (r ≤ 32767) ⌝ }
+{
+    if z < 0 { 0 } else { z as u64 }
+}
