@@ -1,5 +1,5 @@
 -- A list of spans that is filled by a walker's steps: what each step does to it.
-use Prim.Native.Nat.{ℕ, suc, _+_, _-_, _<_}
+use Prim.Native.Nat.{ℕ, suc, _+_, _-_, _<_, _≤_}
 use mathlib.Core.Path.{_≡_, refl, sym, ap, _∙_}
 use mathlib.Core.List.{List, [], _∷_, _++_, append-nil}
 use native.Mathlib.Omega.{arith}
@@ -14,7 +14,7 @@ use Rattle.extension.specs.declared.Listing.{Listing}
 use Rattle.extension.specs.Walk.{extensionLimit, Found, extension, ended, refused, found, restOf, past, stepFrom, stepOf, walk, onto, Walked, listed, stopped}
 use Rattle.extension.specs.Listing.{noSpan, spansOf, listingOf}
 use Rattle.extension.proofs.Found.{taken}
-use Rattle.extension.proofs.Walks.{walk-extension, walk-ended, walk-refused}
+use Rattle.extension.proofs.Walks.{before, walk-extension, walk-ended, walk-refused}
 
 -- spans, and then those of a walk
 abbrev pub after : List Span → Walked → Walked
@@ -25,11 +25,12 @@ pub after-none : (r : Walked) → r ≡ after [] r
 after-none (listed xs) = refl
 after-none (stopped r) = refl
 
-after-onto : (ys : List Span) (x : Span) (r : Walked) → after ys (onto x r) ≡ after (ys ++ (x ∷ [])) r
+pub after-onto : (ys : List Span) (x : Span) (r : Walked) → after ys (onto x r) ≡ after (ys ++ (x ∷ [])) r
 after-onto ys x (listed xs) = ap listed (sym (append-snoc ys x xs))
 after-onto ys x (stopped r) = refl
 
-spans-more : (ys : List Span) (x : Span) → length ys < extensionLimit → set (spansOf ys) (length ys) x ≡ spansOf (ys ++ (x ∷ []))
+pub spans-more : (ys : List Span) (x : Span) → length ys < extensionLimit
+    → set (spansOf ys) (length ys) x ≡ spansOf (ys ++ (x ∷ []))
 unfolding spansOf
 spans-more ys x h =
     let l : length (ys ++ (x ∷ [])) ≡ length ys + 1 = length-append ys (x ∷ []) in
@@ -37,65 +38,69 @@ spans-more ys x h =
     let zeros = replicate (extensionLimit - (length ys + 1)) noSpan in
     rw (l, m) (set-append-seam ys noSpan zeros x ∙ sym (append-snoc ys x zeros))
 
--- `all` is the whole walk. So far `count` spans of it are listed, and the walker `w` has the rest before it
-pub record Filled (all : Walked) (file : List ℕ) (w : Walker) (count : ℕ) (spans : List Span) : Type 0 where
+-- `all` is the whole walk. So far the walker `w` has listed `so-far`, and it has the rest before it
+pub record Filled (all : Walked) (file : List ℕ) (w : Walker) (spans : List Span) : Type 0 where
   pub so-far : List Span
-  pub counted : length so-far ≡ count
-  pub room : count + w .left ≡ extensionLimit
+  pub counted : length so-far ≡ w .count
+  pub most : w .count ≤ extensionLimit
   pub kept : spans ≡ spansOf so-far
-  pub rest : all ≡ after so-far (walk (w .order) (w .left) (w .at) (restOf file (w .end) (w .at)))
+  pub rest : all ≡ after so-far (walk (w .order) (before (w .count)) (w .at) (restOf file (w .end) (w .at)))
 
-stepped : (w next : Walker) (f : Found) (x : Span) → stepFrom w f ≡ Extension x next → (f ≡ extension x) × (past w x ≡ next)
+pub stepped : (w next : Walker) (f : Found) (x : Span) → stepFrom w f ≡ Extension x next
+    → (f ≡ extension x) × (past w x ≡ next)
 stepped w next (extension y) x e = (cc, (cc))
 stepped w next ended x e = (cc, (cc))
 stepped w next (refused r) x e = (cc, (cc))
 
-stepped-end : (w : Walker) (f : Found) → stepFrom w f ≡ End → f ≡ ended
+pub stepped-end : (w : Walker) (f : Found) → stepFrom w f ≡ End → f ≡ ended
 stepped-end w (extension y) e = cc
 stepped-end w ended e = refl
 stepped-end w (refused r) e = cc
 
-stepped-halt : (w : Walker) (f : Found) (r : Refusal) → stepFrom w f ≡ Halt r → f ≡ refused r
+pub stepped-halt : (w : Walker) (f : Found) (r : Refusal) → stepFrom w f ≡ Halt r → f ≡ refused r
 stepped-halt w (extension y) r e = cc
 stepped-halt w ended r e = cc
 stepped-halt w (refused q) r e = cc
 
-module _ (all : Walked) (file : List ℕ) (w : Walker) (count : ℕ) (spans : List Span) (f : Filled all file w count spans) where
-  pub fill-room : (x : Span) (next : Walker) → stepOf file w ≡ Extension x next → (count < extensionLimit) × (next .left < w .left)
+module _ (all : Walked) (file : List ℕ) (w : Walker) (spans : List Span) (f : Filled all file w spans) where
+  abbrev rest : List ℕ
+  rest = restOf file (w .end) (w .at)
+
+  -- what the step finds, as the walk asks for it
+  finds : {x : Found} → found (w .order) (w .count) (w .at) rest ≡ x → found (w .order) (before (before (w .count))) (w .at) rest ≡ x
+  finds e = let n : before (before (w .count)) ≡ w .count = omega (arith, f .most) in rw n e
+
+  pub fill-room : (x : Span) (next : Walker) → stepOf file w ≡ Extension x next → (w .count < extensionLimit) × (next .count ≡ w .count + 1)
   unfolding stepOf
   fill-room x next e =
-      let rest = restOf file (w .end) (w .at) in
-      let s = stepped w next (found (w .order) (w .left) (w .at) rest) x e in
-      let t = taken (w .order) (w .left) (w .at) rest x (s .0) in
-      let l : w .left - 1 ≡ next .left = ap (λ (v : Walker). v .left) (s .1) in
-      (omega arith, omega arith)
+      let s = stepped w next (found (w .order) (w .count) (w .at) rest) x e in
+      (taken (w .order) (w .count) (w .at) rest x (s .0) .more, sym (ap (λ (v : Walker). v .count) (s .1)))
 
-  pub fill-turn : (x : Span) (next : Walker) → stepOf file w ≡ Extension x next → Filled all file next (count + 1) (set spans count x)
+  pub fill-turn : (x : Span) (next : Walker) → stepOf file w ≡ Extension x next → Filled all file next (set spans (w .count) x)
   unfolding stepOf
   fill-turn x next e =
-      let rest = restOf file (w .end) (w .at) in
-      let s = stepped w next (found (w .order) (w .left) (w .at) rest) x e in
-      let t = taken (w .order) (w .left) (w .at) rest x (s .0) in
+      let s = stepped w next (found (w .order) (w .count) (w .at) rest) x e in
+      let t = taken (w .order) (w .count) (w .at) rest x (s .0) in
       let n : length (f .so-far ++ (x ∷ [])) ≡ length (f .so-far) + 1 = length-append (f .so-far) (x ∷ []) in
+      let m : before (w .count) - 1 ≡ before (w .count + 1) = omega (arith, t .more) in
       rw (← s .1)
       record {
         so-far = f .so-far ++ (x ∷ []);
-        counted = omega arith;
-        room = omega arith;
-        kept = rw (f .kept, ← f .counted) (spans-more (f .so-far) x (omega arith));
-        rest = f .rest ∙ rw (walk-extension (w .order) (w .at) rest (w .left) x (s .0), after-onto, drop-drop);
+        counted = omega (arith, f .counted);
+        most = omega (arith, t .more);
+        kept = rw (f .kept, ← f .counted) (spans-more (f .so-far) x (omega (arith, t .more, f .counted)));
+        rest = f .rest ∙ rw (walk-extension (w .order) (w .at) rest (before (w .count)) x (finds (s .0)), after-onto, drop-drop, m);
       }
 
-  pub fill-end : stepOf file w ≡ End → _≡_ {A = Listing} (record { verdict = Accepted; count = count; spans = spans }) (listingOf all)
+  pub fill-end : stepOf file w ≡ End → _≡_ {A = Listing} (record { verdict = Accepted; count = w .count; spans = spans }) (listingOf all)
   unfolding stepOf listingOf
   fill-end e =
-      let rest = restOf file (w .end) (w .at) in
-      let s = stepped-end w (found (w .order) (w .left) (w .at) rest) e in
-      rw (f .rest, walk-ended (w .order) (w .at) rest (w .left) s, append-nil, ← f .kept, ← f .counted)
+      let s = stepped-end w (found (w .order) (w .count) (w .at) rest) e in
+      rw (f .rest, walk-ended (w .order) (w .at) rest (before (w .count)) (finds s), append-nil, ← f .kept, ← f .counted)
 
-  pub fill-halt : (r : Refusal) → stepOf file w ≡ Halt r → _≡_ {A = Listing} (record { verdict = Refused r; count = 0; spans = spansOf [] }) (listingOf all)
+  pub fill-halt : (r : Refusal) → stepOf file w ≡ Halt r
+      → _≡_ {A = Listing} (record { verdict = Refused r; count = 0; spans = spansOf [] }) (listingOf all)
   unfolding stepOf listingOf
   fill-halt r e =
-      let rest = restOf file (w .end) (w .at) in
-      let s = stepped-halt w (found (w .order) (w .left) (w .at) rest) r e in
-      rw (f .rest, walk-refused (w .order) (w .at) rest (w .left) r s)
+      let s = stepped-halt w (found (w .order) (w .count) (w .at) rest) r e in
+      rw (f .rest, walk-refused (w .order) (w .at) rest (before (w .count)) r (finds s))

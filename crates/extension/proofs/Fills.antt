@@ -15,13 +15,13 @@ use Rattle.field.specs.Numbers.{i32At, joined}
 use Rattle.extension.specs.declared.Span.{Span}
 use Rattle.extension.specs.Walk.{extensionLimit, firstPlace, spanAt, walk, listed, restOf, extensionsIn}
 use Rattle.extension.specs.Listing.{noSpan}
-use Rattle.extension.specs.Fills.{Proper, Fills, full, next, Inside}
-use Rattle.extension.specs.Pieces.{pieces, Whole, Wholes, none, one, spansFrom}
+use Rattle.extension.specs.Fills.{Proper, Fills, full, next}
+use Rattle.extension.specs.Pieces.{pieces, Complete, AllComplete, none, one, spansFrom}
 use Rattle.extension.proofs.Signs.{not-negative}
 use Rattle.extension.proofs.Regions.{length-rest, getD-rest, u32-same}
 use Rattle.extension.proofs.Pieces.{whole-small, Opened, opened, spansFrom-at, length-spansFrom, wholes-at, joined-at}
 
-whole-proper : {order : Order} {x : List ℕ} (at : ℕ) → Whole order x → Proper (spanAt order at x)
+whole-proper : {order : Order} {x : List ℕ} (at : ℕ) → Complete order x → Proper (spanAt order at x)
 whole-proper {order} {x} at w =
     let n : natAbs (i32At order x 0) ≡ length x = ap natAbs (w .size) in
     record {
@@ -32,7 +32,7 @@ whole-proper {order} {x} at w =
       code = not-negative (i32At order x 4) (w .code);
     }
 
-fills-spans : {order : Order} {xs : List (List ℕ)} (at : ℕ) → Wholes order xs → Fills at (at + length (joined xs)) (spansFrom order at xs)
+fills-spans : {order : Order} {xs : List (List ℕ)} (at : ℕ) → AllComplete order xs → Fills at (at + length (joined xs)) (spansFrom order at xs)
 unfolding spansFrom
 fills-spans at none = full (sym (add-zero at))
 fills-spans {order} at (one {x} {xs} w ws) =
@@ -49,6 +49,12 @@ walk-fills order left at rest xs e =
 fills-order : {at end : ℕ} {xs : List Span} → Fills at end xs → at ≤ end
 fills-order (full e) = omega arith
 fills-order (next s p f) = omega (arith, fills-order f)
+
+-- a span that lies between two places
+pub record Inside (at end : ℕ) (x : Span) : Type 0 where
+  pub proper : Proper x
+  pub from : at ≤ x .start
+  pub upto : x .start + natAbs (x .size) ≤ end
 
 -- so each of the spans lies in the region
 pub fills-at : {at end : ℕ} {xs : List Span} → Fills at end xs → (k : ℕ) (z : Span) → k < length xs → Inside at end (getD xs k z)
@@ -88,7 +94,7 @@ module _ (order : Order) (left at end : ℕ) (file : List ℕ) (xs : List Span) 
   span-is : getD xs k z ≡ spanAt order (at + before) piece
   span-is = rw (opening .spans) at (spansFrom-at order at (pieces xs rest) k z counted)
 
-  whole-is : Whole order piece
+  whole-is : Complete order piece
   whole-is = wholes-at (opening .wholes) k counted
 
   inside : before + length piece ≤ length rest

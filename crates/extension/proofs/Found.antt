@@ -1,58 +1,55 @@
--- What `found` comes to at each outcome of its tests, and what holds where it finds an extension or the end.
-use Prim.Native.Nat.{ℕ, _+_, _<_}
+-- What `foundBy` comes to at each outcome of its tests, and what holds where `found` finds an extension or the end.
+use Prim.Native.Nat.{ℕ, _+_, _<_, _≤_}
 use mathlib.Core.Path.{_≡_, refl}
 use mathlib.Core.Bool.{Bool, true, false, cond, not}
 use mathlib.Core.List.{List, [], _∷_}
 use native.Mathlib.Omega.{arith}
-use borrow.Author.Tests.{eq-eqb, ne-eqb, eqb-true, eqb-false, not-false}
-use lib.Dec.{eqb}
-use lib.IntN.{pos}
+use borrow.Author.Tests.{eq-eqb, ne-eqb, eqb-true, eqb-false, le-leb, lt-leb, leb-false, not-false}
+use lib.Dec.{leb, eqb}
+use lib.IntN.{ℤ, pos}
 use lib.ListN.{length}
 use lib.Signed.{ltZ}
 use Rattle.field.specs.declared.Order.{Order}
 use Rattle.field.specs.Numbers.{i32At}
-use Rattle.refusal.specs.Table.{row, refusal, verdict}
+use Rattle.refusal.specs.Table.{row, refusal, verdict, decided}
 use Rattle.extension.specs.declared.Span.{Span}
-use Rattle.extension.specs.Walk.{extensionLimit, sizeRule, spanAt, Found, extension, ended, refused, unlessRefused, found}
+use Rattle.extension.specs.Walk.{extensionLimit, sizeRule, span, spanAt, Found, extension, ended, refused, foundBy, found}
 use Rattle.extension.proofs.Signs.{Ruled, ruled}
 
-module _ (order : Order) (left at : ℕ) (rest : List ℕ) where
-  pub found-none : length rest ≡ 0 → left ≡ extensionLimit → found order left at rest ≡ refused (refusal 13 at)
-  unfolding found
-  found-none e f = rw (eq-eqb (length rest) 0 e, eq-eqb left extensionLimit f)
+module _ (before at n : ℕ) (size code : ℤ) where
+  pub found-none : n ≡ 0 → before ≡ 0 → foundBy before at n size code ≡ refused (refusal 13 at)
+  found-none e f = rw (eq-eqb n 0 e, eq-eqb before 0 f)
 
-  pub found-ended : length rest ≡ 0 → (left ≡ extensionLimit → ⊥) → found order left at rest ≡ ended
-  unfolding found
-  found-ended e f = rw (eq-eqb (length rest) 0 e, ne-eqb left extensionLimit f)
+  pub found-ended : n ≡ 0 → (before ≡ 0 → ⊥) → foundBy before at n size code ≡ ended
+  found-ended e f = rw (eq-eqb n 0 e, ne-eqb before 0 f)
 
-  module _ (some : 0 < length rest) where
-    pub found-limit : left ≡ 0 → found order left at rest ≡ refused (refusal 15 at)
-    unfolding found verdict
-    found-limit e = rw (ne-eqb (length rest) 0 (omega arith), eq-eqb left 0 e)
+  module _ (some : 0 < n) where
+    pub found-limit : extensionLimit ≤ before → foundBy before at n size code ≡ refused (refusal 15 at)
+    unfolding verdict
+    found-limit h = rw (ne-eqb n 0 (omega arith), le-leb extensionLimit before h)
 
-    module _ (more : 0 < left) where
-      pub found-size : sizeRule (i32At order rest 0) (length rest) ≡ false → found order left at rest ≡ refused (refusal 13 at)
-      unfolding found verdict
-      found-size s = rw (ne-eqb (length rest) 0 (omega arith), ne-eqb left 0 (omega arith), s)
+    module _ (more : before < extensionLimit) where
+      pub found-size : sizeRule size n ≡ false → foundBy before at n size code ≡ refused (refusal 13 at)
+      unfolding verdict
+      found-size s = rw (ne-eqb n 0 (omega arith), lt-leb extensionLimit before more, s)
 
-      pub found-code : sizeRule (i32At order rest 0) (length rest) ≡ true → ltZ (i32At order rest 4) (pos 0) ≡ true
-          → found order left at rest ≡ refused (refusal 14 (at + 4))
-      unfolding found verdict
-      found-code s c = rw (ne-eqb (length rest) 0 (omega arith), ne-eqb left 0 (omega arith), s, c)
+      pub found-code : sizeRule size n ≡ true → ltZ code (pos 0) ≡ true → foundBy before at n size code ≡ refused (refusal 14 (at + 4))
+      unfolding verdict
+      found-code s c = rw (ne-eqb n 0 (omega arith), lt-leb extensionLimit before more, s, c)
 
-      pub found-extension : sizeRule (i32At order rest 0) (length rest) ≡ true → ltZ (i32At order rest 4) (pos 0) ≡ false
-          → found order left at rest ≡ extension (spanAt order at rest)
-      unfolding found verdict
-      found-extension s c = rw (ne-eqb (length rest) 0 (omega arith), ne-eqb left 0 (omega arith), s, c)
+      pub found-extension : sizeRule size n ≡ true → ltZ code (pos 0) ≡ false → foundBy before at n size code ≡ extension (span at size code)
+      unfolding verdict
+      found-extension s c = rw (ne-eqb n 0 (omega arith), lt-leb extensionLimit before more, s, c)
 
--- `found` with any answers to its five tests
+-- `foundBy` with any answers to its five tests
 abbrev outcome : Bool → Bool → Bool → Bool → Bool → ℕ → Span → Found
 outcome t₁ t₂ t₃ t₄ t₅ p y =
     cond t₁ (cond t₂ (refused (refusal 13 p)) ended)
-    (unlessRefused (verdict (row 15 t₃ p ∷ row 13 t₄ p ∷ row 14 t₅ (p + 4) ∷ [])) (extension y))
+    (decided (verdict (row 15 t₃ p ∷ row 13 t₄ p ∷ row 14 t₅ (p + 4) ∷ [])) (extension y) refused)
 
 -- the one way through the tests to an extension
-tests : (t₁ t₂ t₃ t₄ t₅ : Bool) (p : ℕ) (y x : Span) → outcome t₁ t₂ t₃ t₄ t₅ p y ≡ extension x → (t₃ ≡ false) × (t₄ ≡ false) × (t₅ ≡ false) × (y ≡ x)
+tests : (t₁ t₂ t₃ t₄ t₅ : Bool) (p : ℕ) (y x : Span) → outcome t₁ t₂ t₃ t₄ t₅ p y ≡ extension x
+    → (t₃ ≡ false) × (t₄ ≡ false) × (t₅ ≡ false) × (y ≡ x)
 unfolding verdict
 tests false t₂ false false false p y x e = (refl, refl, refl, (cc))
 tests true true t₃ t₄ t₅ p y x e = (cc, (cc), (cc), (cc))
@@ -72,29 +69,28 @@ end-tests false t₂ false false true p y e = (cc, (cc))
 end-tests false t₂ false false false p y e = (cc, (cc))
 
 -- what holds where an extension is found
-pub record Taken (order : Order) (left at : ℕ) (rest : List ℕ) (x : Span) : Type 0 where
-  pub more : 0 < left
+pub record Taken (order : Order) (before at : ℕ) (rest : List ℕ) (x : Span) : Type 0 where
+  pub more : before < extensionLimit
   pub span : x ≡ spanAt order at rest
   pub size : Ruled (x .size) (length rest)
   pub code : ltZ (x .code) (pos 0) ≡ false
 
-module _ (order : Order) (left at : ℕ) (rest : List ℕ) where
+module _ (order : Order) (before at : ℕ) (rest : List ℕ) where
   abbrev sized : Bool
   sized = sizeRule (i32At order rest 0) (length rest)
 
   abbrev negative : Bool
   negative = ltZ (i32At order rest 4) (pos 0)
 
-  pub taken : (x : Span) → found order left at rest ≡ extension x → Taken order left at rest x
+  pub taken : (x : Span) → found order before at rest ≡ extension x → Taken order before at rest x
   unfolding found
   taken x e =
-      let t = tests (eqb (length rest) 0) (eqb left extensionLimit) (eqb left 0) (not sized) negative at (spanAt order at rest) x e in
-      let some : left ≡ 0 → ⊥ = eqb-false left 0 (t .0) in
+      let t = tests (eqb (length rest) 0) (eqb before 0) (leb extensionLimit before) (not sized) negative at (spanAt order at rest) x e in
       let r = ruled (i32At order rest 0) (length rest) (not-false sized (t .1)) in
-      rw (← t .3) record { more = omega arith; span = refl; size = r; code = t .2 }
+      rw (← t .3) record { more = leb-false extensionLimit before (t .0); span = refl; size = r; code = t .2 }
 
-  pub at-end : found order left at rest ≡ ended → (length rest ≡ 0) × (left ≡ extensionLimit → ⊥)
+  pub at-end : found order before at rest ≡ ended → (length rest ≡ 0) × (before ≡ 0 → ⊥)
   unfolding found
   at-end e =
-      let t = end-tests (eqb (length rest) 0) (eqb left extensionLimit) (eqb left 0) (not sized) negative at (spanAt order at rest) e in
-      (eqb-true (length rest) 0 (t .0), eqb-false left extensionLimit (t .1))
+      let t = end-tests (eqb (length rest) 0) (eqb before 0) (leb extensionLimit before) (not sized) negative at (spanAt order at rest) e in
+      (eqb-true (length rest) 0 (t .0), eqb-false before 0 (t .1))

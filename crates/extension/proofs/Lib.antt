@@ -6,3 +6,4 @@ pub mod Filled
 pub mod Pieces
 pub mod Fills
 pub mod Listings
+pub mod Numbers

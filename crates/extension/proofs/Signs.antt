@@ -1,35 +1,15 @@
--- Signed numbers of 32 bits by their bits: below 2^31 the bits are the number (`toZ-pos`), from there on it is negative. With it the
--- size rule and the sign test of rules 13 and 14 are tests on bits.
-use Prim.Native.Nat.{ℕ, suc, _-_, _%_, _≤_, _<_, zero-le}
-use mathlib.Core.Path.{_≡_, refl, sym, ap, _∙_}
-use mathlib.Core.Bool.{Bool, true, false, _&&_, and-eq-true-iff, false≢true}
+-- The signed numbers of an extension, and the size rule of rule 13 by its tests, one after the other.
+use Prim.Native.Nat.{ℕ, suc, _-_, _%_, _≤_, _<_}
+use mathlib.Core.Path.{_≡_, refl, sym}
+use mathlib.Core.Bool.{Bool, true, false, _&&_, and-eq-true-iff, and-false, true≢false, false≢true}
 use native.Mathlib.Omega.{arith}
-use borrow.Author.Tests.{lt-ltb, le-ltb, le-leb, eq-eqb, ltb-true, leb-true, eqb-true}
+use borrow.Author.Tests.{lt-ltb, le-ltb, le-leb, lt-leb, eq-eqb, ltb-true, leb-true, leb-false, eqb-true}
 use lib.Dec.{leb, ltb, eqb}
 use lib.IntN.{ℤ, pos, negsuc, natAbs}
-use lib.Signed.{ltZ}
+use lib.Signed.{ltZ, leZ}
 use mir.Syntax.{w32}
-use mir.Val.{SFits, toZ, ofZ, sel}
-use mir.ValLaws.{toZ-pos, toZ-ofZ}
+use mir.Val.{SFits, toZ, sel}
 use Rattle.extension.specs.Walk.{sizeRule}
-
--- a signed number read from bits, once it is stored and read again
-pub signed-back : {z : ℤ} {n m : ℕ} → SFits w32 z → z ≡ toZ w32 n → n ≡ m → toZ w32 (ofZ w32 z) ≡ toZ w32 m
-signed-back {z} f e g = toZ-ofZ w32 z f ∙ e ∙ ap (toZ w32) g
-
-pub toZ-high : (n : ℕ) → 2147483648 ≤ n → toZ w32 n ≡ negsuc (4294967296 - suc n)
-toZ-high n h = rw (le-ltb n 2147483648 h)
-
-pub sign-high : (n : ℕ) → 2147483648 ≤ n → ltZ (toZ w32 n) (pos 0) ≡ true
-sign-high n h = rw (toZ-high n h)
-
-pub sign-low : (n : ℕ) → n < 2147483648 → ltZ (toZ w32 n) (pos 0) ≡ false
-sign-low n h = rw (toZ-pos w32 n h) (le-ltb n 0 zero-le)
-
--- of a size that is neither 0 nor negative, two tests are left
-pub rule-low : (n left : ℕ) → 16 ≤ left → 0 < n → n < 2147483648 → sizeRule (toZ w32 n) left ≡ eqb (n % 16) 0 && leb n left
-unfolding sizeRule
-rule-low n left h p s = rw (toZ-pos w32 n s, le-leb 16 left h, lt-ltb 0 n p)
 
 -- bits that read as a number that is not negative are that number
 pub toZ-low : (n m : ℕ) → toZ w32 n ≡ pos m → (n ≡ m) × (n < 2147483648)
@@ -37,6 +17,29 @@ toZ-low n m e = by (ltb n 2147483648) refl e where
   by : (t : Bool) → ltb n 2147483648 ≡ t → sel t (pos n) (negsuc (4294967296 - suc n)) ≡ pos m → (n ≡ m) × (n < 2147483648)
   by true h q = (cc, ltb-true n 2147483648 h)
   by false h q = let z : _≡_ {A = ℕ} 0 1 = cc in absurd (omega arith)
+
+-- ---- The size rule
+
+pub rule-short : (size : ℤ) (left : ℕ) → left < 16 → sizeRule size left ≡ false
+unfolding sizeRule
+rule-short size left h = rw (lt-leb 16 left h)
+
+pub rule-below : (size : ℤ) (left : ℕ) → leZ size (pos 0) ≡ true → sizeRule size left ≡ false
+unfolding sizeRule
+rule-below (pos n) left h = let e : n ≤ 0 = leb-true n 0 h in rw (le-ltb 0 n e) (and-false (leb 16 left))
+rule-below (negsuc n) left h = and-false (leb 16 left)
+
+-- a number above zero
+pub positive-is : (z : ℤ) → SFits w32 z → leZ z (pos 0) ≡ false → (z ≡ pos (natAbs z)) × (natAbs z < 2147483648)
+positive-is (pos n) f h = (refl, f .sfits)
+positive-is (negsuc n) f h = absurd (true≢false h)
+
+-- of a size above zero, two tests are left
+pub rule-above : (size : ℤ) (left : ℕ) → 16 ≤ left → leZ size (pos 0) ≡ false
+    → sizeRule size left ≡ eqb (natAbs size % 16) 0 && leb (natAbs size) left
+unfolding sizeRule
+rule-above (pos n) left l h = rw (le-leb 16 left l, lt-ltb 0 n (leb-false n 0 h))
+rule-above (negsuc n) left l h = absurd (true≢false h)
 
 -- the size rule as facts
 pub record Ruled (size : ℤ) (left : ℕ) : Type 0 where

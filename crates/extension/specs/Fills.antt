@@ -1,4 +1,5 @@
--- A list of spans that fills its region. 01-scope.md, "Extensions": "With 1,0,0,0 they begin at 352 and must fill the region exactly".
+-- A list of spans that fills its region. 01-scope.md, "Extensions": "With 1,0,0,0 they begin at 352 and must fill the region
+-- exactly".
 use Prim.Native.Nat.{ℕ, _+_, _%_, _≤_, _<_}
 use mathlib.Core.Path.{_≡_}
 use mathlib.Core.List.{List, [], _∷_}
@@ -16,10 +17,5 @@ pub record Proper (x : Span) : Type 0 where
 -- spans from a place on, each where the last one ends, up to `end`
 pub data Fills : ℕ → ℕ → List Span → Type 0 where
   full : {at end : ℕ} → at ≡ end → Fills at end []
-  next : {at end : ℕ} {x : Span} {xs : List Span} → x .start ≡ at → Proper x → Fills (at + natAbs (x .size)) end xs → Fills at end (x ∷ xs)
-
--- a span that lies between two places
-pub record Inside (at end : ℕ) (x : Span) : Type 0 where
-  pub proper : Proper x
-  pub from : at ≤ x .start
-  pub upto : x .start + natAbs (x .size) ≤ end
+  next : {at end : ℕ} {x : Span} {xs : List Span} → x .start ≡ at → Proper x → Fills (at + natAbs (x .size)) end xs
+      → Fills at end (x ∷ xs)

@@ -19,15 +19,15 @@ pieces (x ∷ xs) rest = take (natAbs (x .size)) rest ∷ pieces xs (drop (natAb
 
 -- all bytes of one extension: the size that it states is their number, a positive multiple of 16 (rule 13), and its code is not
 -- negative (rule 14)
-pub record Whole (order : Order) (x : List ℕ) : Type 0 where
+pub record Complete (order : Order) (x : List ℕ) : Type 0 where
   pub size : i32At order x 0 ≡ pos (length x)
   pub least : 16 ≤ length x
   pub units : length x % 16 ≡ 0
   pub code : ltZ (i32At order x 4) (pos 0) ≡ false
 
-pub data Wholes (order : Order) : List (List ℕ) → Type 0 where
-  none : Wholes order []
-  one : {x : List ℕ} {xs : List (List ℕ)} → Whole order x → Wholes order xs → Wholes order (x ∷ xs)
+pub data AllComplete (order : Order) : List (List ℕ) → Type 0 where
+  none : AllComplete order []
+  one : {x : List ℕ} {xs : List (List ℕ)} → Complete order x → AllComplete order xs → AllComplete order (x ∷ xs)
 
 -- the spans of extensions that stand one after the other from a place on
 unfoldable pub spansFrom : Order → ℕ → List (List ℕ) → List Span

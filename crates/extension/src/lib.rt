@@ -2,33 +2,34 @@
 // "Extensions", rules 13, 14 and 15). Payload bytes are not read.
 ghost use mathlib.Core.Path.{_≡_};
 ghost use mathlib.Core.List.{[]};
-ghost use Prim.Native.Nat.{_+_, _<_, min};
-ghost use mir.Syntax.{w32};
-ghost use mir.Val.{toZ};
-ghost use lib.ListN.{length};
+ghost use Prim.Native.Nat.{_+_, _<_};
+ghost use lib.ListN.{length, getD};
 ghost use Rattle.refusal.specs.Table.{refusal};
-ghost use Rattle.extension.specs.Walk.{sizeRule, found, stepFrom, stepOf, extensionsIn, extensionLimit, firstPlace};
-ghost use Rattle.extension.specs.Listing.{spansOf, listingOf};
+ghost use Rattle.extension.specs.Walk.{sizeRule, foundBy, found, stepFrom, stepOf, extensionsIn, firstPlace};
+ghost use Rattle.extension.specs.Listing.{noSpan, spansOf, listingOf};
 use field::Order;
 use refusal::Refusal;
 use refusal::Verdict;
 
-// The most extensions a file may have.
+// The most extensions a file may have, and where the first one begins.
 pub const LIMIT: usize = 64;
 
+pub const FIRST: usize = 352;
+
 // An extension: where it starts, its size with the 8 bytes of size and code, and its code.
+#[repr(C)]
 pub struct Span {
     pub start: usize,
     pub size: i32,
     pub code: i32,
 }
 
-// A place in a region of extensions that ends at `end`, and how many more may come.
+// A place in a region of extensions that ends at `end`, and how many came before it.
 pub struct Walker {
     pub order: Order,
     pub end: usize,
     pub at: usize,
-    pub left: usize,
+    pub count: usize,
 }
 
 // What a step finds: an extension and the state after it, the region's end, or a refusal.
@@ -45,24 +46,21 @@ pub struct Listing {
     pub spans: [Span; LIMIT],
 }
 
-// Whether a size, given by its bits, keeps the size rule with `left` bytes left.
-fn size_rule(bits: u32, left: usize) -> bool
-    ensures { λ r. ⌜ r ≡ sizeRule (toZ w32 bits) left ⌝ }
+// Whether a size keeps the size rule with `left` bytes left.
+fn size_rule(size: i32, left: usize) -> bool
+    ensures { λ r. ⌜ r ≡ sizeRule size left ⌝ }
 {
-    let size = bits as usize;
     if left < 16 {
         return false;
     }
-    if bits == 0 {
+    if size <= 0 {
         return false;
     }
-    if 2147483648 <= bits {
+    let n = size as usize;
+    if n % 16 != 0 {
         return false;
     }
-    if size % 16 != 0 {
-        return false;
-    }
-    size <= left
+    n <= left
 }
 
 // A refusal, by its number and place.
@@ -72,65 +70,68 @@ fn halt(number: u64, place: usize) -> Step
     Step::Halt(Refusal { number, place })
 }
 
-// The lesser of two numbers.
-fn lesser(a: usize, b: usize) -> usize
-    ensures { λ r. ⌜ r ≡ min a b ⌝ }
-{
-    if a < b { a } else { b }
-}
-
 impl Walker {
     // The state before the first extension of a region that ends at `end`.
     pub fn new(order: Order, end: usize) -> Self
-        ensures { λ r. ⌜ (r .order ≡ order) × (r .end ≡ end) × (r .at ≡ firstPlace) × (r .left ≡ extensionLimit) ⌝ }
+        ensures { λ r. ⌜ (r .order ≡ order) × (r .end ≡ end) × (r .at ≡ firstPlace) × (r .count ≡ 0) ⌝ }
     {
         Self {
             order,
             end,
-            at: 352,
-            left: LIMIT,
+            at: FIRST,
+            count: 0,
         }
     }
 
-    // A step where `rest` is what is left of the region: the three refusals in the order in which they are tried.
-    fn step_over(self, rest: &[u8]) -> Step
-        requires { ⌜ self .at + length (now rest) < 18446744073709551616 ⌝ }
-        ensures { λ r. ⌜ r ≡ stepFrom self (found (self .order) (self .left) (self .at) (now (rest .entry))) ⌝ }
+    // A step where n bytes are left of the region, with the size and the code that they begin with: the three refusals in
+    // the order in which they are tried.
+    pub fn step_by(self, n: usize, size: i32, code: i32) -> Step
+        requires { ⌜ self .at + n < 18446744073709551616 ⌝ }
+        ensures { λ r. ⌜ r ≡ stepFrom self (foundBy (self .count) (self .at) n size code) ⌝ }
     {
-        let left = self.left;
-        if rest.len() == 0 {
-            if left == LIMIT {
+        let order = self.order;
+        let at = self.at;
+        let count = self.count;
+        if n == 0 {
+            if count == 0 {
                 return halt(13, self.at);
             }
             return Step::End;
         }
-        let at = self.at;
-        let order = self.order;
-        let size = field::read_u32(rest, 0, order);
-        let code = field::read_u32(rest, 4, order);
-        let sized = size_rule(size, rest.len());
-        if left == 0 {
+        let sized = size_rule(size, n);
+        if LIMIT <= count {
             return halt(15, at);
         }
         if !sized {
             return halt(13, at);
         }
-        if 2147483648 <= code {
+        if code < 0 {
             return halt(14, at + 4);
         }
         let past = at + size as usize;
         let span = Span {
             start: at,
-            size: field::signed32(size),
-            code: field::signed32(code),
+            size,
+            code,
         };
         let next = Walker {
             order,
             end: self.end,
             at: past,
-            left: left - 1,
+            count: count + 1,
         };
         Step::Extension(span, next)
+    }
+
+    // A step where `rest` is what is left of the region.
+    fn step_over(self, rest: &[u8]) -> Step
+        requires { ⌜ self .at + length (now rest) < 18446744073709551616 ⌝ }
+        ensures { λ r. ⌜ r ≡ stepFrom self (found (self .order) (self .count) (self .at) (now (rest .entry))) ⌝ }
+    {
+        let order = self.order;
+        let size = field::read_i32(rest, 0, order);
+        let code = field::read_i32(rest, 4, order);
+        self.step_by(rest.len(), size, code)
     }
 
     // The next extension of a file, with the state after it. Any state will do: past the region's end nothing is left.
@@ -139,8 +140,8 @@ impl Walker {
     {
         let end = self.end;
         let at = self.at;
-        let stop = lesser(end, file.len());
-        let from = lesser(at, stop);
+        let stop = number::lesser(end, file.len());
+        let from = number::lesser(at, stop);
         self.step_over(&file[from..stop])
     }
 }
@@ -156,20 +157,34 @@ pub fn no_spans() -> [Span; LIMIT]
     }; LIMIT]
 }
 
+// One of a list's spans; past the array there are none.
+pub fn span_at(spans: [Span; LIMIT], k: usize) -> Span
+    ensures { λ x. ⌜ x ≡ getD spans k noSpan ⌝ }
+{
+    if k < LIMIT {
+        spans[k]
+    } else {
+        Span {
+            start: 0,
+            size: 0,
+            code: 0,
+        }
+    }
+}
+
 // The spans of all extensions of a file whose region ends at `end`, or the first refusal.
 pub fn list(file: &[u8], order: Order, end: usize) -> Listing
     ensures { λ r. ⌜ r ≡ listingOf (extensionsIn order end (now (file .entry))) ⌝ }
 {
     let mut walker = Walker::new(order, end);
-    let mut count: usize = 0;
     let mut spans = no_spans();
     loop {
         let step = walker.step(file);
+        let count = walker.count;
         match step {
             Step::Extension(x, next) => {
                 spans[count] = x;
                 walker = next;
-                count += 1;
             }
             Step::End => {
                 return Listing {

@@ -5,6 +5,7 @@ use mathlib.Core.Path.{_≡_, refl, sym}
 use mathlib.Core.Bool.{Bool, true, false, cond, _&&_, and-eq-true-iff}
 use mathlib.Core.List.{List, [], _∷_, _++_}
 use native.Mathlib.Omega.{arith}
+use lib.Dec.{leb}
 use Rattle.refusal.specs.Table.{Row, refusal, verdict, decided, then}
 use Rattle.refusal.specs.declared.Refusal.{Refusal}
 use Rattle.refusal.specs.declared.Verdict.{Verdict}
@@ -69,6 +70,10 @@ clear-split [] c = (none, c)
 clear-split (r ∷ rs) (one e c) = let p = clear-split rs c in (one e (p .0), p .1)
 
 -- ---- Numbers
+
+-- a number from lo to hi
+abbrev pub between : ℕ → ℕ → ℕ → Bool
+between lo hi n = leb lo n && leb n hi
 
 -- whether every row of a table has a number of a kind
 abbrev pub numbers : (ℕ → Bool) → List Row → Bool

@@ -1,6 +1,6 @@
 -- `list` meets its contract: at each turn the spans so far and the walk that is left are the whole walk (proofs/Filled.antt).
 -- The measure is how many extensions may still come.
-use Prim.Native.Nat.{_<_}
+use Prim.Native.Nat.{_+_, _<_}
 use mathlib.Core.Path.{_≡_, refl, sym, _∙_}
 use mathlib.Core.List.{[]}
 use native.Mathlib.Omega.{arith}
@@ -8,15 +8,16 @@ use borrow.Author.Needs.{needs}
 use Rattle.extension.specs.declared.Step.the-variants.{Extension}
 use Rattle.extension.specs.Walk.{extensionLimit, stepOf, extensionsIn}
 use Rattle.extension.specs.Listing.{listingOf}
+use Rattle.extension.proofs.Walks.{before}
 use Rattle.extension.proofs.Filled.{after-none, Filled, fill-room, fill-turn, fill-end, fill-halt}
 use Rattle.extension.proofs.list.Statement.{statement}
 use Rattle.extension.proofs.list.Tie as tie
 
 abbrev Inv-loop : tie.InvT-loop
-Inv-loop file end walker₀ count₀ spans₀ walker count spans = Filled (extensionsIn (walker₀ .order) (walker₀ .end) file) file walker count spans
+Inv-loop file end walker₀ spans₀ walker spans = Filled (extensionsIn (walker₀ .order) (walker₀ .end) file) file walker spans
 
 abbrev μ-loop : tie.MeasureT-loop
-μ-loop file end walker₀ count₀ spans₀ walker count spans = walker .left
+μ-loop file end walker₀ spans₀ walker spans = before (walker .count)
 
 new-requires : tie.Need-new-requires Inv-loop μ-loop
 new-requires c κs = search needs
@@ -28,7 +29,13 @@ loop-holds : tie.Need-loop-holds Inv-loop μ-loop
 unfolding extensionsIn
 loop-holds c =
     let e = c .before .new .ensures in
-    record { so-far = []; counted = refl; room = omega (arith, e .3); kept = c .no-spans .ensures; rest = rw (e .2, e .3) (after-none _) }
+    record {
+      so-far = [];
+      counted = sym (e .3);
+      most = omega (arith, e .3);
+      kept = c .no-spans .ensures;
+      rest = rw (e .2, e .3) (after-none _);
+    }
 
 step-requires : tie.Need-step-requires Inv-loop μ-loop
 step-requires c κs = search needs
@@ -38,12 +45,13 @@ enum-known-step c = search needs
 
 -- what the turn's step found, and the room that is left for it
 step-is : (c : tie.After-known-told Inv-loop μ-loop) → let l = c .before .before .before .before in
-    stepOf (l .before .before .before .before .args .file .now) (l .loop .walker) ≡ Extension (c .before .step2 .given .0 .0) (c .before .step2 .given .0 .1 .0)
+    stepOf (l .before .before .before .before .args .file .now) (l .loop .walker)
+    ≡ Extension (c .before .step2 .given .0 .0) (c .before .step2 .given .0 .1 .0)
 step-is c = sym (c .before .before .before .step .ensures) ∙ c .before .step2 .given .1
 
-room-is : (c : tie.After-known-told Inv-loop μ-loop) → let l = c .before .before .before .before .loop in
-    (l .count < extensionLimit) × (c .before .step2 .given .0 .1 .0 .left < l .walker .left)
-room-is c = fill-room _ _ _ _ _ (c .before .before .before .before .loop .inv) _ _ (step-is c)
+room-is : (c : tie.After-known-told Inv-loop μ-loop) → let w = c .before .before .before .before .loop .walker in
+    (w .count < extensionLimit) × (c .before .step2 .given .0 .1 .0 .count ≡ w .count + 1)
+room-is c = fill-room _ _ _ _ (c .before .before .before .before .loop .inv) _ _ (step-is c)
 
 mul-spans : tie.Need-mul-spans Inv-loop μ-loop
 mul-spans c = omega (arith, room-is c)
@@ -51,14 +59,11 @@ mul-spans c = omega (arith, room-is c)
 array-set-from-spans : tie.Need-array-set-from-spans Inv-loop μ-loop
 array-set-from-spans c = omega (arith, room-is c)
 
-add-count : tie.Need-add-count Inv-loop μ-loop
-add-count c = omega (arith, room-is c)
-
 loop-less : tie.Need-loop-less Inv-loop μ-loop
 loop-less c = omega (arith, room-is c)
 
 loop-again : tie.Need-loop-again Inv-loop μ-loop
-loop-again c = fill-turn _ _ _ _ _ (c .before .before .before .before .loop .inv) _ _ (step-is c)
+loop-again c = fill-turn _ _ _ _ (c .before .before .before .before .loop .inv) _ _ (step-is c)
 
 enum-told : tie.Need-enum-told Inv-loop μ-loop
 enum-told c = search needs
@@ -67,7 +72,7 @@ returns : tie.Need-returns Inv-loop μ-loop
 returns c =
     let l = c .before .before .before in
     let e = l .before .before .new .ensures in
-    fill-end _ _ _ _ _ (l .loop .inv) (sym (c .before .before .step .ensures) ∙ c .enum-told .given .1)
+    fill-end _ _ _ _ (l .loop .inv) (sym (c .before .before .step .ensures) ∙ c .enum-told .given .1)
     ∙ (λ i. listingOf (extensionsIn (e .0 i) (e .1 i) (l .before .before .before .before .args .file .now)))
 
 enum-known-step-2 : tie.Need-enum-known-step-2 Inv-loop μ-loop
@@ -81,7 +86,7 @@ returns-2 c =
     let l = c .before .before .before .before .before in
     let e = l .before .before .new .ensures in
     rw (c .no-spans2 .ensures)
-    (fill-halt _ _ _ _ _ (l .loop .inv) _ (sym (c .before .before .before .before .step .ensures) ∙ c .before .before .step3 .given .1)
+    (fill-halt _ _ _ _ (l .loop .inv) _ (sym (c .before .before .before .before .step .ensures) ∙ c .before .before .step3 .given .1)
     ∙ (λ i. listingOf (extensionsIn (e .0 i) (e .1 i) (l .before .before .before .before .args .file .now))))
 
 pub list-spec : {M : Type 1} → statement M
@@ -97,7 +102,6 @@ list-spec =
     enum-known-step
     mul-spans
     array-set-from-spans
-    add-count
     loop-less
     loop-again
     enum-told
