@@ -10,7 +10,7 @@ use lib.IntN.{ℤ, pos, negsuc}
 use mir.Syntax.{Width, w16}
 use mir.Val.{SFits, bits, hbits, ofZ}
 use mir.ValLaws.{pow-bits}
-use Rattle.datatype.specs.Datatypes.{Row, datatypes, datatypeOf, isNumber, formatOf, lookup}
+use Rattle.datatype.specs.Datatypes.{Entry, datatypes, datatypeOf, isNumber, formatOf, lookup}
 use Rattle.datatype.specs.declared.Datatype.{Datatype}
 use Rattle.datatype.specs.declared.Datatype.the-variants.{Known, Unknown}
 
@@ -21,15 +21,15 @@ number-bits w (negsuc m) n f h =
     let k : m < 2 ^ hbits w = f .sfits in
     sym (ne-eqb (2 ^ bits w - suc m) n (λ e. omega (arith, pow-bits w)))
 
-abbrev pub byBits : ℕ → List Row → Datatype
+abbrev pub byBits : ℕ → List Entry → Datatype
 byBits n [] = Unknown
 byBits n (r ∷ rs) = cond (eqb n (r .code)) (Known (formatOf r)) (byBits n rs)
 
-abbrev small : List Row → Bool
+abbrev small : List Entry → Bool
 small [] = true
 small (r ∷ rs) = ltb (r .code) 32768 && small rs
 
-lookup-bits : (z : ℤ) (rs : List Row) → SFits w16 z → small rs ≡ true → lookup z rs ≡ byBits (ofZ w16 z) rs
+lookup-bits : (z : ℤ) (rs : List Entry) → SFits w16 z → small rs ≡ true → lookup z rs ≡ byBits (ofZ w16 z) rs
 lookup-bits z [] f h = refl
 lookup-bits z (r ∷ rs) f h =
     let p = and-eq-true-iff (ltb (r .code) 32768) (small rs) .0 h in

@@ -2,8 +2,8 @@
 ghost use mathlib.Core.Path.{_≡_};
 ghost use Rattle.datatype.specs.Datatypes.{datatypeOf};
 
-// How a voxel is stored: its bits, as bitpix states them, its bytes, and the swap unit, that is how many bytes are turned round
-// together when the byte order changes.
+// How a voxel is stored: its bits, as bitpix states them, its bytes, and the swap unit, that is how many bytes are
+// turned round together when the byte order changes.
 pub struct Format {
     pub bits: i16,
     pub bytes: u64,

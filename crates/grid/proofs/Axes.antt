@@ -5,17 +5,19 @@ use mathlib.Core.Bool.{Bool, true, false}
 use mathlib.Core.List.{List, [], _∷_, _++_}
 use Prim.Native.Nat.{ℕ, zero, suc, _+_, _-_, _*_, _≤_, _<_, zero-le}
 use native.Mathlib.Omega.{arith}
-use native.Mathlib.Nat.{eq-or-lt-of-le, le-of-suc-le-suc, not-suc-le-zero, le-refl, mul-assoc, mul-comm, mul-one, mul-suc, one-mul, mul-right-comm, one-le-mul, mul-le-mul-left, le-mul-of-pos-right}
+use native.Mathlib.Nat.{eq-or-lt-of-le, le-of-suc-le-suc, not-suc-le-zero, le-refl, mul-assoc, mul-comm, mul-one, mul-suc, one-mul}
+use native.Mathlib.Nat.{mul-right-comm, one-le-mul, mul-le-mul-left, le-mul-of-pos-right}
 use native.Mathlib.Numerals.{add-one}
 use lib.ListN.{length, getD, replicate, set, length-append, List·getD-append}
 use lib.Seq.{getD-at, set-at, append-snoc}
 use lib.IntN.{ℤ}
 use lib.Dec.{eqb·suc-zero}
 use borrow.Author.Tests.{ltb-false}
-use Rattle.grid.specs.Grid.{voxels, within, rank}
-use Rattle.grid.specs.Axes.{dimAt, belowOne, firstBelow, extent, axes, imageBytes, imageLimit, sevenAxes}
-use Rattle.grid.proofs.Entry.{below-extent}
-use Rattle.grid.proofs.Voxels.{within-both, rank-below}
+use Rattle.number.specs.Natural.{naturalOf}
+use Rattle.grid.specs.Grid.{voxels, within, voxelNumber}
+use Rattle.grid.specs.Axes.{dimAt, belowOne, firstBelow, axes, imageBytes, imageLimit, sevenAxes}
+use Rattle.grid.proofs.Entry.{below-natural}
+use Rattle.grid.proofs.Voxels.{within-both, number-below}
 
 -- ---- rule 5
 
@@ -96,11 +98,11 @@ unfolding axes
 length-axes dim zero = refl
 length-axes dim (suc n) = simp (length-append, length-axes dim n, add-one)
 
-pub axes-at : (dim : List ℤ) (n k : ℕ) → k < n → getD (axes dim n) k 0 ≡ extent (dimAt dim (suc k))
+pub axes-at : (dim : List ℤ) (n k : ℕ) → k < n → getD (axes dim n) k 0 ≡ naturalOf (dimAt dim (suc k))
 unfolding axes
 axes-at dim zero k h = absurd (not-suc-le-zero h)
 axes-at dim (suc n) k h =
-    let e : ℕ = extent (dimAt dim (suc n)) in
+    let e : ℕ = naturalOf (dimAt dim (suc n)) in
     let size : length (axes dim n) ≡ n = length-axes dim n in
     ⊎-elim
     (λ last. rw last (getD-at (axes dim n) e [] 0 n size))
@@ -114,36 +116,37 @@ unfolding voxels
 voxels-append [] es = sym (one-mul (voxels es))
 voxels-append (d ∷ ds) es = rw (voxels-append ds es) (sym (mul-assoc d (voxels ds) (voxels es)))
 
-voxels-next : (dim : List ℤ) (n : ℕ) → voxels (axes dim (suc n)) ≡ voxels (axes dim n) * extent (dimAt dim (suc n))
+voxels-next : (dim : List ℤ) (n : ℕ) → voxels (axes dim (suc n)) ≡ voxels (axes dim n) * naturalOf (dimAt dim (suc n))
 unfolding axes voxels
 voxels-next dim n =
-    voxels-append (axes dim n) (extent (dimAt dim (suc n)) ∷ []) ∙ rw (mul-one (extent (dimAt dim (suc n))))
+    voxels-append (axes dim n) (naturalOf (dimAt dim (suc n)) ∷ []) ∙ rw (mul-one (naturalOf (dimAt dim (suc n))))
 
 pub voxels-positive : (dim : List ℤ) (n : ℕ) → firstBelow dim n ≡ 0 → 1 ≤ voxels (axes dim n)
 unfolding axes voxels
 voxels-positive dim zero h = omega arith
 voxels-positive dim (suc n) h =
     let p = first-before dim n h in
-    let one : 1 ≤ extent (dimAt dim (suc n)) = ltb-false (extent (dimAt dim (suc n))) 1 (sym (below-extent (dimAt dim (suc n))) ∙ p .1) in
+    let d : ℤ = dimAt dim (suc n) in
+    let one : 1 ≤ naturalOf d = ltb-false (naturalOf d) 1 (sym (below-natural d) ∙ p .1) in
     rw (voxels-next dim n) (one-le-mul (voxels-positive dim n (p .0)) one)
 
 pub image-none : (dim : List ℤ) (b : ℕ) → imageBytes dim 0 b ≡ b
 unfolding imageBytes axes voxels
 image-none dim b = one-mul b
 
-pub image-next : (dim : List ℤ) (n b : ℕ) → imageBytes dim (suc n) b ≡ imageBytes dim n b * extent (dimAt dim (suc n))
+pub image-next : (dim : List ℤ) (n b : ℕ) → imageBytes dim (suc n) b ≡ imageBytes dim n b * naturalOf (dimAt dim (suc n))
 unfolding imageBytes
-image-next dim n b = rw (voxels-next dim n) (mul-right-comm (voxels (axes dim n)) (extent (dimAt dim (suc n))) b)
+image-next dim n b = rw (voxels-next dim n) (mul-right-comm (voxels (axes dim n)) (naturalOf (dimAt dim (suc n))) b)
 
 -- ---- the seven axes
 
 -- one length more, stored into the seven
-pub seven-next : (dim : List ℤ) (n : ℕ) → n < 7 → set (sevenAxes dim n) n (extent (dimAt dim (suc n))) ≡ sevenAxes dim (suc n)
+pub seven-next : (dim : List ℤ) (n : ℕ) → n < 7 → set (sevenAxes dim n) n (naturalOf (dimAt dim (suc n))) ≡ sevenAxes dim (suc n)
 unfolding axes sevenAxes
 seven-next dim n h =
     let left : 7 - n ≡ suc (7 - suc n) = omega arith in
     let rest : List ℕ = replicate (7 - suc n) 1 in
-    let e : ℕ = extent (dimAt dim (suc n)) in
+    let e : ℕ = naturalOf (dimAt dim (suc n)) in
     rw left (set-at (axes dim n) 1 rest e n (length-axes dim n) ∙ sym (append-snoc (axes dim n) e rest))
 
 voxels-ones : (m : ℕ) → voxels (replicate m 1) ≡ 1
@@ -183,7 +186,8 @@ voxels-limit dim n b p h =
     omega (arith, image-seven dim n b, mul-comm b v, le-mul-of-pos-right {m = b} v p)
 
 -- the bytes of a voxel are bytes of the image
-pub voxel-inside : (dim : List ℤ) (n b : ℕ) (is : List ℕ) → within (sevenAxes dim n) is ≡ true → b * rank (sevenAxes dim n) is + b ≤ imageBytes dim n b
+pub voxel-inside : (dim : List ℤ) (n b : ℕ) (is : List ℕ) → within (sevenAxes dim n) is ≡ true
+    → b * voxelNumber (sevenAxes dim n) is + b ≤ imageBytes dim n b
 voxel-inside dim n b is h =
-    let r : ℕ = rank (sevenAxes dim n) is in
-    omega (arith, image-seven dim n b, mul-suc b r, mul-le-mul-left b (rank-below (sevenAxes dim n) is h))
+    let r : ℕ = voxelNumber (sevenAxes dim n) is in
+    omega (arith, image-seven dim n b, mul-suc b r, mul-le-mul-left b (number-below (sevenAxes dim n) is h))

@@ -2,3 +2,4 @@ pub mod Entry
 pub mod Limit
 pub mod Axes
 pub mod Voxels
+pub mod Bounds

@@ -3,9 +3,10 @@ use mathlib.Core.Bool.{Bool, cond}
 use mathlib.Core.List.{List, [], _∷_, _++_}
 use Prim.Native.Nat.{ℕ, zero, suc, _+_, _-_, _*_, min}
 use lib.ListN.{getD, replicate}
-use lib.IntN.{ℤ, pos, negsuc}
+use lib.IntN.{ℤ, pos}
 use lib.Dec.{eqb}
 use lib.Signed.{ltZ}
+use Rattle.number.specs.Natural.{naturalOf}
 use Rattle.grid.specs.Grid.{voxels}
 
 -- dim[i]; past the end, 0
@@ -24,15 +25,10 @@ firstBelow dim (suc n) =
     (cond (belowOne (dimAt dim (suc n))) (suc n) 0)
     (firstBelow dim n)
 
--- the length that an entry states: the entry itself, and 0 where it is negative
-abbrev pub extent : ℤ → ℕ
-extent (pos n) = n
-extent (negsuc n) = 0
-
--- the lengths that dim[1] to dim[n] state
+-- the lengths that dim[1] to dim[n] state: 0 where an entry is negative
 unfoldable pub axes : List ℤ → ℕ → List ℕ
 axes dim zero = []
-axes dim (suc n) = axes dim n ++ (extent (dimAt dim (suc n)) ∷ [])
+axes dim (suc n) = axes dim n ++ (naturalOf (dimAt dim (suc n)) ∷ [])
 
 -- "Image bytes are dim[1] × .. × dim[dim[0]] × bitpix / 8, with no wrap at any step"; bytes is bitpix / 8, n is dim[0]
 unfoldable pub imageBytes : List ℤ → ℕ → ℕ → ℕ

@@ -1,20 +1,23 @@
-// An image's axes, as the header's dim states them: which entry is below 1, the image's bytes, and how many voxels are
-// before that of an index. Where dim is a slice, dim[i] is 0 past its end, and n is the number of axes, dim[0].
+// An image's axes, as the header's dim states them: which entry is below 1, the image's bytes, and the number of an
+// index's voxel. Where dim is a slice, dim[i] is 0 past its end, and n is the number of axes, dim[0].
 ghost use mathlib.Core.Path.{_≡_};
 ghost use mathlib.Core.Bool.{true};
 ghost use Prim.Native.Nat.{_≤_};
-ghost use Rattle.grid.specs.Grid.{voxels, within, rank};
-ghost use Rattle.grid.specs.Axes.{dimAt, firstBelow, extent, imageBytes, imageLimit, capped, sevenAxes};
+ghost use Rattle.number.specs.Natural.{naturalOf};
+ghost use Rattle.grid.specs.Grid.{voxels, within, voxelNumber};
+ghost use Rattle.grid.specs.Axes.{dimAt, firstBelow, imageBytes, imageLimit, capped, sevenAxes};
+
+// The most bytes that an image may have (rule 10).
+pub const LIMIT: u64 = 1_099_511_627_776;
 
 // The length that dim[i] states: 0 where it is negative.
-pub fn extent_of(dim: &[i16], i: usize) -> u64
-    ensures { λ r. ⌜ (r ≡ extent (dimAt (now (dim .entry)) i)) × (r ≤ 32767) ⌝ }
+pub fn axis_length(dim: &[i16], i: usize) -> u64
+    ensures { λ r. ⌜ (r ≡ naturalOf (dimAt (now (dim .entry)) i)) × (r ≤ 32767) ⌝ }
 {
     if dim.len() <= i {
         return 0;
     }
-    let d = dim[i];
-    if d < 0 { 0 } else { d as u64 }
+    number::natural(dim[i])
 }
 
 // The least i from 1 to n for which dim[i] is below 1, or 0 where there is none.
@@ -24,18 +27,18 @@ pub fn first_below_one(dim: &[i16], n: usize) -> usize
     let mut i = 0;
     while i < n {
         i += 1;
-        if extent_of(dim, i) < 1 {
+        if axis_length(dim, i) < 1 {
             return i;
         }
     }
     0
 }
 
-// A number, or one above the limit of an image's bytes where it is above that limit.
+// A number, or one above the limit where it is above that.
 fn limited(m: u64) -> u64
     ensures { λ r. ⌜ r ≡ capped m ⌝ }
 {
-    if m <= 1099511627776 { m } else { 1099511627777 }
+    if m <= LIMIT { m } else { LIMIT + 1 }
 }
 
 // The image's bytes, with the bytes of one voxel, or one above their limit where they are above it.
@@ -48,7 +51,7 @@ pub fn image_bytes(dim: &[i16], n: usize, bytes: u64) -> u64
     while axis < n {
         axis += 1;
         let kept = limited(product);
-        product = kept * extent_of(dim, axis);
+        product = kept * axis_length(dim, axis);
     }
     limited(product)
 }
@@ -61,7 +64,7 @@ pub fn seven(dim: &[i16], n: usize) -> [u64; 7]
     let mut lengths = [1u64; 7];
     let mut k = 0;
     while k < n {
-        lengths[k] = extent_of(dim, k + 1);
+        lengths[k] = axis_length(dim, k + 1);
         k += 1;
     }
     lengths
@@ -81,11 +84,11 @@ pub fn is_within(lengths: [u64; 7], index: [u64; 7]) -> bool
     true
 }
 
-// How many voxels are before that of an index, the first number fastest.
-pub fn rank_of(lengths: [u64; 7], index: [u64; 7]) -> u64
+// The number of the voxel of an index, which is how many voxels are before it: the index's first number varies fastest.
+pub fn voxel_number(lengths: [u64; 7], index: [u64; 7]) -> u64
     requires { ⌜ within lengths index ≡ true ⌝ }
     requires { ⌜ voxels lengths ≤ imageLimit ⌝ }
-    ensures { λ r. ⌜ r ≡ rank lengths index ⌝ }
+    ensures { λ r. ⌜ r ≡ voxelNumber lengths index ⌝ }
 {
     let mut k = 7;
     let mut r = 0;

@@ -1,42 +1,48 @@
 -- `offsetOf` by its three cases: each answer from what holds of the bits, and back. Assumes nothing.
 use mathlib.Core.Path.{_≡_, refl, subst}
 use Prim.Native.Nat.{ℕ, _≤_, _<_}
-use mathlib.Core.Bool.{Bool, true, false, cond}
-use lib.Dec.{leb}
-use borrow.Author.Tests.{le-leb, lt-leb, leb-false}
+use mathlib.Core.Bool.{Bool, true, false, not}
+use mathlib.Core.List.{[], _∷_}
+use lib.Dec.{ltb}
+use borrow.Author.Tests.{le-ltb, lt-ltb, ltb-true}
+use Rattle.refusal.specs.Table.{row, verdict, decided}
 use Rattle.offset.specs.declared.Offset.{Offset}
 use Rattle.offset.specs.declared.Offset.the-variants.{Whole, NotWhole, TooLarge}
-use Rattle.offset.specs.Offset.{offsetLimit, isWhole, wholeOf, offsetOf}
+use Rattle.offset.specs.Offset.{offsetLimit, isWhole, wholeOf, offsetCase, offsetOf}
 
 -- ---- from the bits to the answer
 
 pub whole-answer : (bits n : ℕ) → isWhole bits ≡ true → wholeOf bits ≡ n → n ≤ offsetLimit → offsetOf bits ≡ Whole n
-unfolding offsetOf
-whole-answer bits n w v l = simp (w, v, le-leb n offsetLimit l)
+unfolding offsetOf verdict
+whole-answer bits n w v l = simp (w, v, le-ltb offsetLimit n l)
 
 pub large-answer : (bits : ℕ) → isWhole bits ≡ true → offsetLimit < wholeOf bits → offsetOf bits ≡ TooLarge
-unfolding offsetOf
-large-answer bits w l = simp (w, lt-leb (wholeOf bits) offsetLimit l)
+unfolding offsetOf verdict
+large-answer bits w l = simp (w, lt-ltb offsetLimit (wholeOf bits) l)
 
 pub not-whole-answer : (bits : ℕ) → isWhole bits ≡ false → offsetOf bits ≡ NotWhole
-unfolding offsetOf
+unfolding offsetOf verdict
 not-whole-answer bits w = simp w
 
 -- ---- from the answer to the bits
 
 -- what an answer says of the two tests and the number that it was chosen by
 abbrev Says : Offset → Bool → Bool → ℕ → Type 0
-Says (Whole n) p q v = (p ≡ true) × (q ≡ true) × (v ≡ n)
+Says (Whole n) p q v = (p ≡ true) × (q ≡ false) × (v ≡ n)
 Says NotWhole p q v = p ≡ false
-Says TooLarge p q v = (p ≡ true) × (q ≡ false)
+Says TooLarge p q v = (p ≡ true) × (q ≡ true)
 
-says : (bits : ℕ) (o : Offset) → offsetOf bits ≡ o → Says o (isWhole bits) (leb (wholeOf bits) offsetLimit) (wholeOf bits)
-unfolding offsetOf
-says bits o e = subst (λ (x : Offset). Says x (isWhole bits) (leb (wholeOf bits) offsetLimit) (wholeOf bits)) e (go (isWhole bits) (leb (wholeOf bits) offsetLimit) (wholeOf bits))
+says : (bits : ℕ) (o : Offset) → offsetOf bits ≡ o → Says o (isWhole bits) (ltb offsetLimit (wholeOf bits)) (wholeOf bits)
+unfolding offsetOf verdict
+says bits o e =
+    let p : Bool = isWhole bits in
+    let q : Bool = ltb offsetLimit (wholeOf bits) in
+    subst (λ (x : Offset). Says x p q (wholeOf bits)) e (go p q (wholeOf bits))
   where
-    go : (p q : Bool) (v : ℕ) → Says (cond p (cond q (Whole v) TooLarge) NotWhole) p q v
-    go true true v = (refl, refl, refl)
-    go true false v = (refl, refl)
+    go : (p q : Bool) (v : ℕ)
+        → Says (decided (verdict (row 8 (not p) 108 ∷ row 9 q 108 ∷ [])) (Whole v) (λ r. offsetCase (r .number))) p q v
+    go true true v = (refl, refl)
+    go true false v = (refl, refl, refl)
     go false q v = refl
 
 pub whole-is-whole : (bits n : ℕ) → offsetOf bits ≡ Whole n → isWhole bits ≡ true
@@ -52,4 +58,4 @@ pub large-is-whole : (bits : ℕ) → offsetOf bits ≡ TooLarge → isWhole bit
 large-is-whole bits e = says bits TooLarge e .0
 
 pub large-value : (bits : ℕ) → offsetOf bits ≡ TooLarge → offsetLimit < wholeOf bits
-large-value bits e = leb-false (wholeOf bits) offsetLimit (says bits TooLarge e .1)
+large-value bits e = ltb-true offsetLimit (wholeOf bits) (says bits TooLarge e .1)

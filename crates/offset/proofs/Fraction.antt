@@ -28,7 +28,11 @@ rescale (inf t) s a c b d C h v = v
 rescale (fin t m e) s a c b d C h v = (
   v .0,
   eq-of-mul-eq-mul-right c C (m * up e * d) (b * down e)
-      (mul-right-comm (m * up e) d c ∙ ap (λ (x : ℕ). x * d) (v .1) ∙ mul-right-comm a (down e) d ∙ ap (λ (x : ℕ). x * down e) h ∙ mul-right-comm b c (down e)),
+      (mul-right-comm (m * up e) d c
+      ∙ ap (λ (x : ℕ). x * d) (v .1)
+      ∙ mul-right-comm a (down e) d
+      ∙ ap (λ (x : ℕ). x * down e) h
+      ∙ mul-right-comm b c (down e)),
 )
 
 -- a number with a plus sign has only the fraction left to be judged by
@@ -47,13 +51,17 @@ module _ (bits a c : ℕ) (C : 0 < c) (v : HasValue (floatOf bits) false a c) wh
 
   pub whole-at : a % c ≡ 0 → isWhole bits ≡ true
   unfolding isWhole
-  whole-at r = positive-test (floatOf bits) a c v ∙ eq-eqb (num (floatOf bits) % den (floatOf bits)) 0 (same-rem a c (num (floatOf bits)) (den (floatOf bits)) C (sym cross) r)
+  whole-at r =
+      let n : ℕ = num (floatOf bits) in
+      let d : ℕ = den (floatOf bits) in
+      positive-test (floatOf bits) a c v ∙ eq-eqb (n % d) 0 (same-rem a c n d C (sym cross) r)
 
   pub part-at : (a % c ≡ 0 → ⊥) → isWhole bits ≡ false
   unfolding isWhole
   part-at n =
-      positive-test (floatOf bits) a c v
-      ∙ ne-eqb (num (floatOf bits) % den (floatOf bits)) 0 (λ r. n (same-rem (num (floatOf bits)) (den (floatOf bits)) a c (den-pos (floatOf bits)) cross r))
+      let m : ℕ = num (floatOf bits) in
+      let d : ℕ = den (floatOf bits) in
+      positive-test (floatOf bits) a c v ∙ ne-eqb (m % d) 0 (λ r. n (same-rem m d a c (den-pos (floatOf bits)) cross r))
 
   pub value-at : wholeOf bits ≡ a / c
   unfolding wholeOf

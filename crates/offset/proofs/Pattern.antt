@@ -41,7 +41,9 @@ fields-value s (suc x) t h =
 -- an exponent's field of 255 is an infinity's or a NaN's
 pub ones-infinite : (b : ℕ) → exponent b ≡ 255 → finite (floatOf b) ≡ false
 unfolding ofFields
-ones-infinite b h = ap finite (fields b ∙ ap (λ (x : ℕ). ofFields binary32 (leb 2147483648 b) x (b % 8388608)) h) ∙ go (eqb (b % 8388608) 0) (leb 2147483648 b)
+ones-infinite b h =
+    ap finite (fields b ∙ ap (λ (x : ℕ). ofFields binary32 (leb 2147483648 b) x (b % 8388608)) h)
+    ∙ go (eqb (b % 8388608) 0) (leb 2147483648 b)
   where
     go : (p s : Bool) → finite (cond p (inf s) nan) ≡ false
     go true s = refl

@@ -73,10 +73,14 @@ sig-normal (suc x) t h = refl
 
 -- a factor moved between two powers of two
 moved : (q i j k l : ℕ) → i + j ≡ k + l → q * 2 ^ i * 2 ^ j ≡ q * 2 ^ k * 2 ^ l
-moved q i j k l h = mul-assoc q (2 ^ i) (2 ^ j) ∙ ap (λ (x : ℕ). q * x) (sym (pow-add 2 i j) ∙ ap (λ (x : ℕ). 2 ^ x) h ∙ pow-add 2 k l) ∙ sym (mul-assoc q (2 ^ k) (2 ^ l))
+moved q i j k l h =
+    mul-assoc q (2 ^ i) (2 ^ j)
+    ∙ ap (λ (x : ℕ). q * x) (sym (pow-add 2 i j) ∙ ap (λ (x : ℕ). 2 ^ x) h ∙ pow-add 2 k l)
+    ∙ sym (mul-assoc q (2 ^ k) (2 ^ l))
 
 -- the value as a fraction over 2 ^ l
-value-in : (b k l : ℕ) → 1065353216 ≤ b → b < 2139095040 → b / 8388608 - 1 + l ≡ k + 149 → HasValue (floatOf b) false ((8388608 + b % 8388608) * 2 ^ k) (2 ^ l)
+value-in : (b k l : ℕ) → 1065353216 ≤ b → b < 2139095040 → b / 8388608 - 1 + l ≡ k + 149
+    → HasValue (floatOf b) false ((8388608 + b % 8388608) * 2 ^ k) (2 ^ l)
 value-in b k l h w e =
     let x : exponent b ≡ b / 8388608 = omega arith in
     let q : significand (exponent b) (b % 8388608) ≡ 8388608 + b % 8388608 = sig-normal (exponent b) (b % 8388608) (omega arith) in
@@ -92,7 +96,8 @@ huge-answer b h w =
     let q : 8388608 ≤ 8388608 + b % 8388608 = omega arith in
     let k : 5 ≤ b / 8388608 - 150 = omega arith in
     let large : 134217728 < a = lt-of-lt-of-le (lit< tt) (mul-le-mul q (pow-mono k)) in
-    sym (large-answer b (whole-at b a 1 (zero-lt-suc 0) v (omega arith)) (subst (λ (z : ℕ). 134217728 < z) (sym (value-at b a 1 (zero-lt-suc 0) v ∙ div-one a)) large))
+    sym (large-answer b (whole-at b a 1 (zero-lt-suc 0) v (omega arith))
+    (subst (λ (z : ℕ). 134217728 < z) (sym (value-at b a 1 (zero-lt-suc 0) v ∙ div-one a)) large))
 
 -- ---- from 1 up to 2 ^ 28: the value in parts of 2 ^ -23, as the shift gives it
 

@@ -1,13 +1,16 @@
 -- The voxel offset of a header: what its 32 bits say, and the 32 bits of a whole number.
--- Carries out 01-scope.md, "vox_offset is binary32. Minus zero counts as 0", its rule 8, and the upper bound of its rule 9.
--- Bits are a natural number, so that no caller has to speak of floats.
+-- Carries out 01-scope.md, "vox_offset is binary32. Minus zero counts as 0", its rule 8, and the upper bound of its rule 9;
+-- and "Where an answer is an enum, a definition lists this paper's number and values for each case". Bits are a natural number, so
+-- that no caller has to speak of floats.
 use Prim.Native.Nat.{ℕ, _/_, _%_}
 use mathlib.Core.Bool.{Bool, not, _&&_, cond, false}
-use lib.Dec.{leb, eqb}
+use mathlib.Core.List.{List, [], _∷_}
+use lib.Dec.{ltb, eqb}
 use lib.IntN.{pos}
 use lib.Ieee.{Float, fin, binary32, lt, ofBits, toBits, ofInt}
 use lib.Ieee.Scale.{finite}
 use lib.Ieee.Positive.{num, den}
+use Rattle.refusal.specs.Table.{Row, row, verdict, decided}
 use Rattle.offset.specs.declared.Offset.{Offset}
 use Rattle.offset.specs.declared.Offset.the-variants.{Whole, NotWhole, TooLarge}
 
@@ -39,9 +42,17 @@ isWhole bits = wholeFloat (floatOf bits)
 unfoldable pub wholeOf : ℕ → ℕ
 wholeOf bits = num (floatOf bits) / den (floatOf bits)
 
--- rules 8 and 9 in this order: NotWhole is rule 8, TooLarge the upper bound of rule 9, which single files and pairs share
+-- rules 8 and 9, as far as both kinds of file share them: of rule 9 the upper bound
+abbrev pub offsetRows : ℕ → List Row
+offsetRows bits = row 8 (not (isWhole bits)) 108 ∷ row 9 (ltb offsetLimit (wholeOf bits)) 108 ∷ []
+
+-- the case of a rule's number: NotWhole is rule 8, TooLarge rule 9
+abbrev pub offsetCase : ℕ → Offset
+offsetCase n = cond (eqb n 8) NotWhole TooLarge
+
+-- the answer: the whole number, or the case of the first rule that refuses the bits
 unfoldable pub offsetOf : ℕ → Offset
-offsetOf bits = cond (isWhole bits) (cond (leb (wholeOf bits) offsetLimit) (Whole (wholeOf bits)) TooLarge) NotWhole
+offsetOf bits = decided (verdict (offsetRows bits)) (Whole (wholeOf bits)) (λ r. offsetCase (r .number))
 
 -- the bits of a whole number, rounded to the nearest binary32; exact for each multiple of 16 up to offsetLimit
 unfoldable pub offsetBits : ℕ → ℕ

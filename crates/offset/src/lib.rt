@@ -12,7 +12,7 @@ pub enum Offset {
 }
 
 // The largest offset a file may have.
-const LIMIT: u64 = 134_217_728;
+pub const LIMIT: u64 = 134_217_728;
 
 // What the bits say. From 1 on, a number with the exponent field e and the digits t is
 // (2^23 + t) * 2^(e - 150).

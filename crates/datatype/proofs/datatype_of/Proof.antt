@@ -1,4 +1,4 @@
--- `datatype_of` meets its contract: each arm's code has its row in the table, and bits that no arm names have none.
+-- `datatype_of` meets its contract: each arm's code has its entry in the table, and bits that no arm names have none.
 use Prim.Native.Nat.{ℕ}
 use mathlib.Core.Path.{refl}
 use borrow.Author.Tests.{ne-eqb}
@@ -110,7 +110,24 @@ returns-17 c =
     let z = c .before .args .code in
     let n : ℕ = ofZ w16 z in
     let no = c .match .rest in
-    by-bits z n (c .before .fits .code) refl (simp (ne-eqb n 2 (no .0 .0 .0 .0 .0 .0 .0 .0 .0 .0 .0 .0 .0 .0 .0 .1), ne-eqb n 4 (no .0 .0 .0 .0 .0 .0 .0 .0 .0 .0 .0 .0 .0 .0 .1), ne-eqb n 8 (no .0 .0 .0 .0 .0 .0 .0 .0 .0 .0 .0 .0 .0 .1), ne-eqb n 16 (no .0 .0 .0 .0 .0 .0 .0 .0 .0 .0 .0 .0 .1), ne-eqb n 32 (no .0 .0 .0 .0 .0 .0 .0 .0 .0 .0 .0 .1), ne-eqb n 64 (no .0 .0 .0 .0 .0 .0 .0 .0 .0 .0 .1), ne-eqb n 128 (no .0 .0 .0 .0 .0 .0 .0 .0 .0 .1), ne-eqb n 256 (no .0 .0 .0 .0 .0 .0 .0 .0 .1), ne-eqb n 512 (no .0 .0 .0 .0 .0 .0 .0 .1), ne-eqb n 768 (no .0 .0 .0 .0 .0 .0 .1), ne-eqb n 1024 (no .0 .0 .0 .0 .0 .1), ne-eqb n 1280 (no .0 .0 .0 .0 .1), ne-eqb n 1536 (no .0 .0 .0 .1), ne-eqb n 1792 (no .0 .0 .1), ne-eqb n 2048 (no .0 .1), ne-eqb n 2304 (no .1)))
+    by-bits z n (c .before .fits .code) refl (simp (
+      ne-eqb n 2 (no .0 .0 .0 .0 .0 .0 .0 .0 .0 .0 .0 .0 .0 .0 .0 .1),
+      ne-eqb n 4 (no .0 .0 .0 .0 .0 .0 .0 .0 .0 .0 .0 .0 .0 .0 .1),
+      ne-eqb n 8 (no .0 .0 .0 .0 .0 .0 .0 .0 .0 .0 .0 .0 .0 .1),
+      ne-eqb n 16 (no .0 .0 .0 .0 .0 .0 .0 .0 .0 .0 .0 .0 .1),
+      ne-eqb n 32 (no .0 .0 .0 .0 .0 .0 .0 .0 .0 .0 .0 .1),
+      ne-eqb n 64 (no .0 .0 .0 .0 .0 .0 .0 .0 .0 .0 .1),
+      ne-eqb n 128 (no .0 .0 .0 .0 .0 .0 .0 .0 .0 .1),
+      ne-eqb n 256 (no .0 .0 .0 .0 .0 .0 .0 .0 .1),
+      ne-eqb n 512 (no .0 .0 .0 .0 .0 .0 .0 .1),
+      ne-eqb n 768 (no .0 .0 .0 .0 .0 .0 .1),
+      ne-eqb n 1024 (no .0 .0 .0 .0 .0 .1),
+      ne-eqb n 1280 (no .0 .0 .0 .0 .1),
+      ne-eqb n 1536 (no .0 .0 .0 .1),
+      ne-eqb n 1792 (no .0 .0 .1),
+      ne-eqb n 2048 (no .0 .1),
+      ne-eqb n 2304 (no .1),
+    ))
 
 pub datatype-of-spec : {M : Type 1} → statement M
 datatype-of-spec =

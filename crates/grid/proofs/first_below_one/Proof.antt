@@ -6,9 +6,10 @@ use native.Mathlib.Omega.{arith}
 use native.Mathlib.Numerals.{add-one}
 use borrow.Author.Needs.{needs}
 use borrow.Author.Tests.{le-ltb, lt-ltb}
-use Rattle.grid.specs.Axes.{dimAt, belowOne, firstBelow, extent}
+use Rattle.number.specs.Natural.{naturalOf}
+use Rattle.grid.specs.Axes.{dimAt, belowOne, firstBelow}
 use Rattle.grid.proofs.Axes.{first-found, first-passed, first-stays}
-use Rattle.grid.proofs.Entry.{below-extent}
+use Rattle.grid.proofs.Entry.{below-natural}
 use Rattle.grid.proofs.first_below_one.Statement.{statement}
 use Rattle.grid.proofs.first_below_one.Tie as tie
 
@@ -25,16 +26,17 @@ loop-holds c = (omega arith, refl)
 add-i : tie.Need-add-i Inv-loop μ-loop
 add-i c = search needs
 
-extent-of-requires : tie.Need-extent-of-requires Inv-loop μ-loop
-extent-of-requires c κs = search needs
+axis-length-requires : tie.Need-axis-length-requires Inv-loop μ-loop
+axis-length-requires c κs = search needs
 
 returns : tie.Need-returns Inv-loop μ-loop
 returns c =
     let lo = c .before .before .before in
     let dim = lo .before .args .dim .now in
     let i = lo .loop .i in
-    let e = rw add-one at (c .before .extent-of .ensures .0) in
-    let here : belowOne (dimAt dim (suc i)) ≡ true = below-extent (dimAt dim (suc i)) ∙ lt-ltb (extent (dimAt dim (suc i))) 1 (omega arith) in
+    let e = rw add-one at (c .before .axis-length .ensures .0) in
+    let d = dimAt dim (suc i) in
+    let here : belowOne d ≡ true = below-natural d ∙ lt-ltb (naturalOf d) 1 (omega arith) in
     add-one i ∙ sym (first-stays dim (suc i) (lo .before .args .n) i (omega arith) (first-found dim i (lo .loop .inv .1) here))
 
 loop-less : tie.Need-loop-less Inv-loop μ-loop
@@ -45,8 +47,9 @@ loop-again c =
     let lo = c .before .before .before in
     let dim = lo .before .args .dim .now in
     let i = lo .loop .i in
-    let e = rw add-one at (c .before .extent-of .ensures .0) in
-    let here : belowOne (dimAt dim (suc i)) ≡ false = below-extent (dimAt dim (suc i)) ∙ le-ltb (extent (dimAt dim (suc i))) 1 (omega arith) in
+    let e = rw add-one at (c .before .axis-length .ensures .0) in
+    let d = dimAt dim (suc i) in
+    let here : belowOne d ≡ false = below-natural d ∙ le-ltb (naturalOf d) 1 (omega arith) in
     (omega arith, rw add-one (first-passed dim i (lo .loop .inv .1) here))
 
 returns-2 : tie.Need-returns-2 Inv-loop μ-loop
@@ -63,7 +66,7 @@ first-below-one-spec =
     μ-loop
     loop-holds
     add-i
-    extent-of-requires
+    axis-length-requires
     returns
     loop-less
     loop-again

@@ -1,11 +1,13 @@
--- `grid::image_bytes` meets its contract: the product is, capped, what dim[1] to dim[axis] give; it is capped before the next one, which so does not wrap.
+-- `grid::image_bytes` meets its contract: the product is, capped, what dim[1] to dim[axis] give; it is capped before the next one,
+-- which so does not wrap.
 use mathlib.Core.Path.{_≡_, _∙_}
 use Prim.Native.Nat.{ℕ, suc, _+_, _-_, _*_, _≤_}
 use native.Mathlib.Omega.{arith}
 use native.Mathlib.Nat.{mul-le-mul}
 use native.Mathlib.Numerals.{add-one}
 use borrow.Author.Needs.{needs}
-use Rattle.grid.specs.Axes.{dimAt, extent, imageBytes, imageLimit, capped}
+use Rattle.number.specs.Natural.{naturalOf}
+use Rattle.grid.specs.Axes.{dimAt, imageBytes, imageLimit, capped}
 use Rattle.grid.proofs.Axes.{image-none, image-next}
 use Rattle.grid.proofs.Limit.{capped-times}
 use Rattle.grid.proofs.image_bytes.Statement.{statement}
@@ -26,13 +28,13 @@ add-axis c = search needs
 limited-requires : tie.Need-limited-requires Inv-loop μ-loop
 limited-requires c κs = search needs
 
-extent-of-requires : tie.Need-extent-of-requires Inv-loop μ-loop
-extent-of-requires c κs = search needs
+axis-length-requires : tie.Need-axis-length-requires Inv-loop μ-loop
+axis-length-requires c κs = search needs
 
 mul-product : tie.Need-mul-product Inv-loop μ-loop
 mul-product c =
-    let m : c .before .limited .result * c .extent-of .result ≤ (imageLimit + 1) * 32767 =
-    mul-le-mul {n₂ = imageLimit + 1} (omega arith) (c .extent-of .ensures .1) in
+    let m : c .before .limited .result * c .axis-length .result ≤ (imageLimit + 1) * 32767 =
+    mul-le-mul {n₂ = imageLimit + 1} (omega arith) (c .axis-length .ensures .1) in
     omega arith
 
 loop-less : tie.Need-loop-less Inv-loop μ-loop
@@ -43,9 +45,10 @@ loop-again c =
     let lo = c .before .before .before in
     let a = lo .before .args in
     let m : ℕ = imageBytes (a .dim .now) (lo .loop .axis) (a .bytes) in
-    let e : ℕ = extent (dimAt (a .dim .now) (suc (lo .loop .axis))) in
+    let e : ℕ = naturalOf (dimAt (a .dim .now) (suc (lo .loop .axis))) in
     let kept : c .before .limited .result ≡ capped m = c .before .limited .ensures ∙ lo .loop .inv .1 in
-    (omega arith, rw (kept, c .extent-of .ensures .0, add-one (lo .loop .axis), image-next (a .dim .now) (lo .loop .axis) (a .bytes)) (capped-times m e))
+    let next = image-next (a .dim .now) (lo .loop .axis) (a .bytes) in
+    (omega arith, rw (kept, c .axis-length .ensures .0, add-one (lo .loop .axis), next) (capped-times m e))
 
 limited-requires-2 : tie.Need-limited-requires-2 Inv-loop μ-loop
 limited-requires-2 c κs = search needs
@@ -65,7 +68,7 @@ image-bytes-spec =
     loop-holds
     add-axis
     limited-requires
-    extent-of-requires
+    axis-length-requires
     mul-product
     loop-less
     loop-again

@@ -19,11 +19,11 @@ loop-holds : tie.Need-loop-holds Inv-loop μ-loop
 unfolding sevenAxes axes
 loop-holds c = (omega arith, refl)
 
-add-extent-of : tie.Need-add-extent-of Inv-loop μ-loop
-add-extent-of c = search needs
+add-axis-length : tie.Need-add-axis-length Inv-loop μ-loop
+add-axis-length c = search needs
 
-extent-of-requires : tie.Need-extent-of-requires Inv-loop μ-loop
-extent-of-requires c κs = search needs
+axis-length-requires : tie.Need-axis-length-requires Inv-loop μ-loop
+axis-length-requires c κs = search needs
 
 mul-lengths : tie.Need-mul-lengths Inv-loop μ-loop
 mul-lengths c = search needs
@@ -41,7 +41,7 @@ loop-again : tie.Need-loop-again Inv-loop μ-loop
 loop-again c =
     let lo = c .before .before in
     let a = lo .before .args in
-    (omega arith, rw (lo .loop .inv .1, c .extent-of .ensures .0, add-one (lo .loop .k)) (seven-next (a .dim .now) (lo .loop .k) (omega arith)))
+    (omega arith, rw (lo .loop .inv .1, c .axis-length .ensures .0, add-one (lo .loop .k)) (seven-next (a .dim .now) (lo .loop .k) (omega arith)))
 
 returns : tie.Need-returns Inv-loop μ-loop
 returns c =
@@ -56,8 +56,8 @@ seven-spec =
     Inv-loop
     μ-loop
     loop-holds
-    add-extent-of
-    extent-of-requires
+    add-axis-length
+    axis-length-requires
     mul-lengths
     array-write-lengths
     add-k
