@@ -11,8 +11,8 @@ use Rattle.field.proofs.Inverse.{u32-back, i32-back, i16-back}
 use Rattle.field.proofs.Tabulate.{bytesAt-part}
 use Rattle.extension.specs.declared.Span.{Span}
 use Rattle.header.specs.declared.Kind.{Kind}
-use Rattle.header.specs.Fields.{headerOf, keyOf, intentOf, scaleOf, displayOf, quaternOf, rowsOf}
-use Rattle.encode.specs.Encode.{magicOf, encode, keyBytes, dimBytes, intentBytes, scaleBytes, displayBytes, quaternBytes, rowsBytes}
+use Rattle.header.specs.Fields.{magicOf, headerOf, keyOf, intentOf, scaleOf, displayOf, quaternOf, rowsOf}
+use Rattle.encode.specs.Encode.{encode, keyBytes, dimBytes, intentBytes, scaleBytes, displayBytes, quaternBytes, rowsBytes}
 
 module _ (order : Order) (s : List ℕ) (all : (i : ℕ) → getD s i 0 < 256) where
   known-size : i32At order s 0 ≡ pos 348 → bytesOf order 4 348 ≡ bytesAt 0 4 s

@@ -14,7 +14,8 @@ use Rattle.header.specs.declared.Scale.{Scale}
 use Rattle.header.specs.declared.Display.{Display}
 use Rattle.header.specs.declared.Quatern.{Quatern}
 use Rattle.header.specs.declared.Rows.{Rows}
-use Rattle.encode.specs.Encode.{magicOf, encode, keyBytes, dimBytes, intentBytes, scaleBytes, displayBytes, quaternBytes, rowsBytes}
+use Rattle.header.specs.Fields.{magicOf}
+use Rattle.encode.specs.Encode.{encode, keyBytes, dimBytes, intentBytes, scaleBytes, displayBytes, quaternBytes, rowsBytes}
 
 length-magic : (kind : Kind) → length (magicOf kind) ≡ 4
 length-magic Single = refl

@@ -8,7 +8,6 @@ use Rattle.field.specs.declared.Order.{Order}
 use Rattle.field.specs.Numbers.{padded, bytesOf, u32sBytes, i16sBytes}
 use Rattle.header.specs.declared.Header.{Header}
 use Rattle.header.specs.declared.Kind.{Kind}
-use Rattle.header.specs.declared.Kind.the-variants.{Single, Pair}
 use Rattle.header.specs.declared.Key.{Key}
 use Rattle.header.specs.declared.Intent.{Intent}
 use Rattle.header.specs.declared.Scale.{Scale}
@@ -16,11 +15,7 @@ use Rattle.header.specs.declared.Display.{Display}
 use Rattle.header.specs.declared.Quatern.{Quatern}
 use Rattle.header.specs.declared.Rows.{Rows}
 use lib.IntN.{ℤ}
-
--- n+1 or ni1, and a zero byte
-abbrev pub magicOf : Kind → List ℕ
-magicOf Single = 0x6E ∷ 0x2B ∷ 0x31 ∷ 0 ∷ []
-magicOf Pair = 0x6E ∷ 0x69 ∷ 0x31 ∷ 0 ∷ []
+use Rattle.header.specs.Fields.{magicOf}
 
 -- header_key of nifti1.h, bytes 0..40
 unfoldable pub keyBytes : Order → Key → List ℕ

@@ -1,11 +1,13 @@
-// A record's 348 bytes, stored at the front of a buffer. 01-scope.md: the writer "writes 348 and the kind's magic, and doesn't
-// read the spans"; all other fields are written as the record has them.
+// A record's 348 bytes, stored at the front of a buffer. 01-scope.md: the writer "writes 348 and the kind's magic, and
+// doesn't read the spans"; all other fields are written as the record has them.
 ghost use mathlib.Core.Path.{_≡_};
 ghost use Prim.Native.Nat.{_<_};
 ghost use lib.ListN.{getD};
 ghost use lib.Seq.{sets};
 ghost use Rattle.field.specs.Numbers.{padded, u32sBytes, i16sBytes};
-ghost use Rattle.encode.specs.Encode.{magicOf, encode, keyBytes, intentBytes, scaleBytes, displayBytes, quaternBytes, rowsBytes};
+ghost use Rattle.header.specs.Fields.{magicOf};
+ghost use Rattle.encode.specs.Encode.{encode, keyBytes, intentBytes, scaleBytes, displayBytes, quaternBytes};
+ghost use Rattle.encode.specs.Encode.{rowsBytes};
 use field::Order;
 use header::Display;
 use header::Header;

@@ -83,8 +83,8 @@ impl Walker {
         }
     }
 
-    // A step where n bytes are left of the region, with the size and the code that they begin with: the three refusals in
-    // the order in which they are tried.
+    // A step where n bytes are left of the region, with the size and the code that they begin with: the three refusals
+    // in the order in which they are tried.
     pub fn step_by(self, n: usize, size: i32, code: i32) -> Step
         requires { ⌜ self .at + n < 18446744073709551616 ⌝ }
         ensures { λ r. ⌜ r ≡ stepFrom self (foundBy (self .count) (self .at) n size code) ⌝ }

@@ -1,10 +1,11 @@
-// The record of a NIfTI-1 header: all 43 fields of source document 003, the unused ones too, every float by its 32 bits, so
-// that a NaN's payload survives (01-scope.md, "The record has all fields"). Grouped in file order; the dims, the extension
-// spans, the byte order and the kind of file stand at the top.
+// The record of a NIfTI-1 header: all 43 fields of source document 003, the unused ones too, every float by its 32
+// bits, so that a NaN's payload survives (01-scope.md, "The record has all fields"). Grouped in file order; the dims,
+// the extension spans, the byte order and the kind of file stand at the top.
 ghost use mathlib.Core.Path.{_≡_};
 ghost use Prim.Native.Nat.{_<_};
 ghost use Rattle.field.specs.Numbers.{bytesAt, u32sAt, i16sAt};
-ghost use Rattle.header.specs.Fields.{headerOf, KeyIs, IntentIs, ScaleIs, DisplayIs, QuaternIs, RowsIs};
+ghost use Rattle.header.specs.Fields.{headerOf, keyOf, intentOf, scaleOf, displayOf, quaternOf, rowsOf};
+use extension::LIMIT;
 use extension::Span;
 use field::Order;
 
@@ -19,7 +20,7 @@ pub struct Header {
     pub kind: Kind,
     pub dim: [i16; 8],
     pub count: usize,
-    pub spans: [Span; 64],
+    pub spans: [Span; LIMIT],
     pub key: Key,
     pub intent: Intent,
     pub scale: Scale,
@@ -186,7 +187,7 @@ pub fn dims(file: &[u8], order: Order) -> [i16; 8]
 
 // The groups, read in file order.
 fn read_key(file: &[u8], order: Order) -> Key
-    ensures { λ r. ⌜ KeyIs order (now (file .entry)) r ⌝ }
+    ensures { λ r. ⌜ r ≡ keyOf order (now (file .entry)) ⌝ }
 {
     Key {
         sizeof_hdr: field::read_i32(file, 0, order),
@@ -200,7 +201,7 @@ fn read_key(file: &[u8], order: Order) -> Key
 }
 
 fn read_intent(file: &[u8], order: Order) -> Intent
-    ensures { λ r. ⌜ IntentIs order (now (file .entry)) r ⌝ }
+    ensures { λ r. ⌜ r ≡ intentOf order (now (file .entry)) ⌝ }
 {
     Intent {
         intent_p1: field::read_u32(file, 56, order),
@@ -214,7 +215,7 @@ fn read_intent(file: &[u8], order: Order) -> Intent
 }
 
 fn read_scale(file: &[u8], order: Order) -> Scale
-    ensures { λ r. ⌜ ScaleIs order (now (file .entry)) r ⌝ }
+    ensures { λ r. ⌜ r ≡ scaleOf order (now (file .entry)) ⌝ }
 {
     Scale {
         pixdim: u32x8(file, 76, order),
@@ -228,7 +229,7 @@ fn read_scale(file: &[u8], order: Order) -> Scale
 }
 
 fn read_display(file: &[u8], order: Order) -> Display
-    ensures { λ r. ⌜ DisplayIs order (now (file .entry)) r ⌝ }
+    ensures { λ r. ⌜ r ≡ displayOf order (now (file .entry)) ⌝ }
 {
     Display {
         cal_max: field::read_u32(file, 124, order),
@@ -243,7 +244,7 @@ fn read_display(file: &[u8], order: Order) -> Display
 }
 
 fn read_quatern(file: &[u8], order: Order) -> Quatern
-    ensures { λ r. ⌜ QuaternIs order (now (file .entry)) r ⌝ }
+    ensures { λ r. ⌜ r ≡ quaternOf order (now (file .entry)) ⌝ }
 {
     Quatern {
         qform_code: field::read_i16(file, 252, order),
@@ -258,7 +259,7 @@ fn read_quatern(file: &[u8], order: Order) -> Quatern
 }
 
 fn read_rows(file: &[u8], order: Order) -> Rows
-    ensures { λ r. ⌜ RowsIs order (now (file .entry)) r ⌝ }
+    ensures { λ r. ⌜ r ≡ rowsOf order (now (file .entry)) ⌝ }
 {
     Rows {
         srow_x: u32x4(file, 280, order),
@@ -270,7 +271,7 @@ fn read_rows(file: &[u8], order: Order) -> Rows
 }
 
 // All of a record.
-fn parse_front(front: &[u8], order: Order, kind: Kind, count: usize, spans: [Span; 64]) -> Header
+fn parse_front(front: &[u8], order: Order, kind: Kind, count: usize, spans: [Span; LIMIT]) -> Header
     ensures { λ r. ⌜ r ≡ headerOf order kind count spans (now (front .entry)) ⌝ }
 {
     Header {
@@ -288,9 +289,10 @@ fn parse_front(front: &[u8], order: Order, kind: Kind, count: usize, spans: [Spa
     }
 }
 
-// The record of a file's first 348 bytes, with what is known of it beside them. Past the end there are zeros, so that an empty
-// file's record is all zero. The bytes are copied first: of an array the compiler knows that each field lies inside.
-pub fn parse(file: &[u8], order: Order, kind: Kind, count: usize, spans: [Span; 64]) -> Header
+// The record of a file's first 348 bytes, with what is known of it beside them. Past the end there are zeros, so that
+// an empty file's record is all zero. The bytes are copied first: of an array the compiler knows that each field lies
+// inside.
+pub fn parse(file: &[u8], order: Order, kind: Kind, count: usize, spans: [Span; LIMIT]) -> Header
     ensures { λ r. ⌜ r ≡ headerOf order kind count spans (now (file .entry)) ⌝ }
 {
     let mut front = [0u8; 348];

@@ -1,4 +1,5 @@
-// Small numbers' tools that several crates share: the lesser and the greater of two, and a signed 16-bit number as a length.
+// Small numbers' tools that several crates share: the lesser and the greater of two, and a signed 16-bit number as a
+// length.
 ghost use mathlib.Core.Path.{_≡_};
 ghost use Prim.Native.Nat.{_≤_, min, max};
 ghost use Rattle.number.specs.Natural.{naturalOf};

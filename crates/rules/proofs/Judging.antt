@@ -1,7 +1,7 @@
 -- What rules 5 to 10 decide, rule by rule: each law names the rules that have passed and the one that refuses.
 use Prim.Native.Nat.{ℕ, zero, suc, _+_, _*_, _/_, _<_, _≤_}
 use mathlib.Core.Path.{_≡_, refl, ap, sym, _∙_}
-use mathlib.Core.Bool.{Bool, true, false, _||_}
+use mathlib.Core.Bool.{Bool, true, false, _||_, or-false, false≢true}
 use mathlib.Core.List.{List}
 use native.Mathlib.Omega.{arith}
 use borrow.Author.Tests.{ne-eqb, eq-eqb, eqb-true, lt-ltb, le-ltb}
@@ -11,18 +11,31 @@ use mir.Syntax.{w16}
 use mir.Val.{SFits, ofZ}
 use Rattle.refusal.specs.Table.{refusal, verdict}
 use Rattle.datatype.specs.declared.Format.{Format}
-use Rattle.datatype.specs.declared.Datatype.the-variants.{Unknown}
+use Rattle.datatype.specs.declared.Datatype.the-variants.{Known, Unknown}
 use Rattle.datatype.specs.Datatypes.{datatypeOf, isNumber}
 use Rattle.datatype.proofs.Bits.{number-bits}
 use Rattle.datatype.proofs.Sound.{Sound, known-sound}
-use Rattle.offset.specs.Offset.{isWhole, offsetLimit}
-use Rattle.grid.specs.Axes.{extent, firstBelow, imageBytes, imageLimit, capped}
+use Rattle.offset.specs.Offset.{isWhole, wholeOf, offsetLimit}
+use Rattle.number.specs.Natural.{naturalOf}
+use Rattle.grid.specs.Axes.{firstBelow, imageBytes, imageLimit, capped}
 use Rattle.grid.proofs.Axes.{first-least}
 use Rattle.header.specs.declared.Kind.{Kind}
 use Rattle.header.specs.declared.Kind.the-variants.{Single, Pair}
 use Rattle.rules.specs.declared.Shape.{Shape}
 use Rattle.rules.specs.declared.Judged.the-variants.{Passed, Failed}
-use Rattle.rules.specs.Rules.{firstBad, axisCount, offsetOutside, bytesOfImage, imageOf, judgedOf, HasFormat, HasOffset}
+use Rattle.rules.specs.Rules.{firstBad, axisCount, offsetOutside, bytesOfImage, imageOf, judgedOf}
+
+-- that rules 5 and 6 have passed, and which format the datatype has
+pub record HasFormat (f : Shape) (t : Format) : Type 0 where
+  pub axes : firstBad f ≡ 0
+  pub known : datatypeOf (f .datatype) ≡ Known t
+
+-- that rules 7 and 8 have passed too, with the bytes of a voxel and the voxel offset as a whole number
+pub record HasOffset (f : Shape) (t : Format) (at : ℕ) : Type 0 where
+  pub format : HasFormat f t
+  pub bits : isNumber (f .bitpix) (naturalOf (t .bits)) ≡ true
+  pub whole : isWhole (f .«vox_offset») ≡ true
+  pub value : wholeOf (f .«vox_offset») ≡ at
 
 -- an offset above the limit is outside in either kind
 pub beyond : (kind : Kind) (n len : ℕ) → offsetLimit < n → offsetOutside kind n len ≡ true
@@ -30,29 +43,25 @@ beyond Single n len h = rw (le-ltb n 352 (omega arith), lt-ltb 134217728 n h)
 beyond Pair n len h = rw (lt-ltb 134217728 n h)
 
 -- and below the limit the kinds differ
-or-false : (a : Bool) → (a || false) ≡ a
-or-false true = refl
-or-false false = refl
-
 pub single-outside : (n len : ℕ) → n ≤ offsetLimit → ltb n 352 ≡ offsetOutside Single n len
 single-outside n len h = rw (le-ltb 134217728 n h) (sym (or-false (ltb n 352)))
 
 pub pair-outside : (n len : ℕ) → n ≤ offsetLimit → ltb offsetLimit len ≡ offsetOutside Pair n len
 pair-outside n len h = rw (le-ltb 134217728 n h)
 
-same-extent : (z : ℤ) (n : ℕ) → isNumber z n ≡ true → extent z ≡ n
-same-extent (pos m) n e = eqb-true m n e
-same-extent (negsuc m) n e = let z : _≡_ {A = ℕ} 0 1 = cc in absurd (omega arith)
+same-naturalOf : (z : ℤ) (n : ℕ) → isNumber z n ≡ true → naturalOf z ≡ n
+same-naturalOf (pos m) n e = eqb-true m n e
+same-naturalOf (negsuc m) n e = let z : _≡_ {A = ℕ} 0 1 = cc in absurd (omega arith)
 
 -- bitpix and the datatype's bits, compared as they are stored
 module _ (t : Format) (z : ℤ) (s : Sound t) (fits : SFits w16 z) where
-  by-bits : isNumber z (extent (t .bits)) ≡ eqb (ofZ w16 z) (ofZ w16 (t .bits))
+  by-bits : isNumber z (naturalOf (t .bits)) ≡ eqb (ofZ w16 z) (ofZ w16 (t .bits))
   by-bits = rw (s .bits) (number-bits w16 z (t .bytes * 8) fits (omega (arith, s .most)))
 
-  pub bits-differ : (ofZ w16 z ≡ ofZ w16 (t .bits) → ⊥) → isNumber z (extent (t .bits)) ≡ false
+  pub bits-differ : (ofZ w16 z ≡ ofZ w16 (t .bits) → ⊥) → isNumber z (naturalOf (t .bits)) ≡ false
   bits-differ d = by-bits ∙ ne-eqb (ofZ w16 z) (ofZ w16 (t .bits)) d
 
-  pub bits-agree : ofZ w16 z ≡ ofZ w16 (t .bits) → isNumber z (extent (t .bits)) ≡ true
+  pub bits-agree : ofZ w16 z ≡ ofZ w16 (t .bits) → isNumber z (naturalOf (t .bits)) ≡ true
   bits-agree e = by-bits ∙ eq-eqb (ofZ w16 z) (ofZ w16 (t .bits)) e
 
 -- rule 5's i is at most dim[0]
@@ -73,20 +82,20 @@ module _ (f : Shape) (len : ℕ) where
   judged-6 axes unknown = simp (axes, unknown)
 
   module _ (t : Format) where
-    pub judged-7 : HasFormat f t → isNumber (f .bitpix) (extent (t .bits)) ≡ false → Failed (refusal 7 72) ≡ judgedOf f len
+    pub judged-7 : HasFormat f t → isNumber (f .bitpix) (naturalOf (t .bits)) ≡ false → Failed (refusal 7 72) ≡ judgedOf f len
     unfolding judgedOf verdict
     judged-7 h bits = simp (h .axes, h .known, bits)
 
-    pub judged-8 : HasFormat f t → isNumber (f .bitpix) (extent (t .bits)) ≡ true → isWhole (f .«vox_offset») ≡ false → Failed (refusal 8 108) ≡ judgedOf f len
+    pub judged-8 : HasFormat f t → isNumber (f .bitpix) (naturalOf (t .bits)) ≡ true → isWhole (f .«vox_offset») ≡ false → Failed (refusal 8 108) ≡ judgedOf f len
     unfolding judgedOf verdict
     judged-8 h bits whole = simp (h .axes, h .known, bits, whole)
 
     module _ (at : ℕ) (h : HasOffset f t at) where
       -- the bytes of a voxel, as the datatype has them and as bitpix states them
-      pub voxel-bytes : extent (f .bitpix) / 8 ≡ t .bytes
+      pub voxel-bytes : naturalOf (f .bitpix) / 8 ≡ t .bytes
       voxel-bytes =
           let s = known-sound (f .datatype) t (h .format .known) in
-          let e : extent (f .bitpix) ≡ t .bytes * 8 = same-extent (f .bitpix) (extent (t .bits)) (h .bits) ∙ ap extent (s .bits) in
+          let e : naturalOf (f .bitpix) ≡ t .bytes * 8 = same-naturalOf (f .bitpix) (naturalOf (t .bits)) (h .bits) ∙ ap naturalOf (s .bits) in
           rw e (omega arith)
 
       -- the product that is taken with the datatype's bytes and dim[0] axes is the image's

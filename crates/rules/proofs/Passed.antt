@@ -1,15 +1,15 @@
 -- What an answer of rules 5 to 10 tells: the table's verdict behind it, and of fields that pass, how large the image's numbers are.
 use Prim.Native.Nat.{ℕ, _≤_}
-use mathlib.Core.Path.{_≡_, refl}
-use mathlib.Core.Bool.{Bool, true, false, _||_}
+use mathlib.Core.Path.{_≡_, refl, sym}
+use mathlib.Core.Bool.{Bool, true, false, _||_, true≢false}
 use native.Mathlib.Omega.{arith}
 use borrow.Author.Tests.{ltb-false}
 use lib.Dec.{ltb}
 use Rattle.refusal.specs.declared.Refusal.{Refusal}
 use Rattle.refusal.specs.declared.Verdict.{Verdict}
 use Rattle.refusal.specs.declared.Verdict.the-variants.{Accepted, Refused}
-use Rattle.refusal.specs.Table.{verdict}
-use Rattle.refusal.proofs.Rows.{Clear, none, one, accepted-clear}
+use Rattle.refusal.specs.Table.{verdict, decided}
+use Rattle.refusal.proofs.Rows.{Clear, none, one, accepted-clear, decided-accepted, decided-refused}
 use Rattle.offset.specs.Offset.{wholeOf, offsetLimit}
 use Rattle.grid.specs.Axes.{imageLimit}
 use Rattle.header.specs.declared.Header.{Header}
@@ -18,19 +18,21 @@ use Rattle.header.specs.declared.Kind.the-variants.{Single, Pair}
 use Rattle.rules.specs.declared.Shape.{Shape}
 use Rattle.rules.specs.declared.Image.{Image}
 use Rattle.rules.specs.declared.Judged.the-variants.{Passed, Failed}
-use Rattle.rules.specs.Rules.{fieldRows, offsetOutside, bytesOfImage, imageOf, judgedBy, judgedOf, shapeOfRecord, recordRows, recordJudged}
+use Rattle.rules.specs.Rules.{fieldRows, offsetOutside, bytesOfImage, imageOf, judgedOf, shapeOfRecord, recordRows, recordJudged}
 
-passed-by : (v : Verdict) (i j : Image) → judgedBy v i ≡ Passed j → (v ≡ Accepted) × (i ≡ j)
-passed-by Accepted i j e = (refl, cc)
-passed-by (Refused r) i j e = let z : _≡_ {A = ℕ} 0 1 = cc in absurd (omega arith)
+-- fields that pass have not failed
+pub failed-never {ℓ} : {A : Type ℓ} {r : Refusal} {i : Image} → Failed r ≡ Passed i → A
+failed-never e = let z : _≡_ {A = ℕ} 0 1 = cc in absurd (omega arith)
 
-failed-by : (v : Verdict) (i : Image) (r : Refusal) → judgedBy v i ≡ Failed r → v ≡ Refused r
-failed-by Accepted i r e = let z : _≡_ {A = ℕ} 0 1 = cc in absurd (omega arith)
-failed-by (Refused q) i r e = cc
+passed-by : (v : Verdict) (i j : Image) → decided v (Passed i) Failed ≡ Passed j → (v ≡ Accepted) × (i ≡ j)
+passed-by v i j e = let d = decided-accepted v (λ r. failed-never) e in (d .0, cc (d .1))
+
+failed-by : (v : Verdict) (i : Image) (r : Refusal) → decided v (Passed i) Failed ≡ Failed r → v ≡ Refused r
+failed-by v i r e = let d = decided-refused v (λ q. failed-never (sym q)) e in cc (d .1, d .2)
 
 pub neither : (a b : Bool) → (a || b) ≡ false → (a ≡ false) × (b ≡ false)
 neither false b e = (refl, e)
-neither true b e = let z : _≡_ {A = ℕ} 0 1 = cc in absurd (omega arith)
+neither true b e = absurd (true≢false e)
 
 inside-limit : (kind : Kind) (n len : ℕ) → offsetOutside kind n len ≡ false → n ≤ offsetLimit
 inside-limit Single n len e = ltb-false offsetLimit n (neither (ltb n 352) (ltb offsetLimit n) e .1)

@@ -9,7 +9,8 @@ use lib.IntN.{ℤ, pos, negsuc}
 use mir.Syntax.{w16}
 use mir.Val.{toZ}
 use Rattle.refusal.specs.Table.{refusal, verdict}
-use Rattle.grid.specs.Axes.{dimAt, extent}
+use Rattle.number.specs.Natural.{naturalOf}
+use Rattle.grid.specs.Axes.{dimAt}
 use Rattle.header.specs.declared.Header.{Header}
 use Rattle.rules.specs.declared.Judged.the-variants.{Failed}
 use Rattle.rules.specs.Rules.{oneToSeven, judgedOf, shapeOfRecord, recordJudged}
@@ -25,9 +26,9 @@ seven-bits n = by (ltb n 32768) refl
     by false e = seven-above n (ltb-false n 32768 e)
 
 -- and by the number of axes that it states
-pub seven-extent : (z : ℤ) → oneToSeven z ≡ (leb 1 (extent z) && leb (extent z) 7)
-seven-extent (pos n) = refl
-seven-extent (negsuc n) = refl
+pub seven-naturalOf : (z : ℤ) → oneToSeven z ≡ (leb 1 (naturalOf z) && leb (naturalOf z) 7)
+seven-naturalOf (pos n) = refl
+seven-naturalOf (negsuc n) = refl
 
 -- what a record's rule 2 decides
 module _ (h : Header) where

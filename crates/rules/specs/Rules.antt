@@ -1,21 +1,18 @@
 -- The refusal table, rules 5 to 10: what is judged of a header's fields, whether they were read from a file or are about to
--- be written (01-scope.md, "Refusal numbers" and "The header rules").
+-- be written; and rules 11 and 16, which ask whether a file holds the image (01-scope.md, "Refusal numbers" and "The header rules").
 use Prim.Native.Nat.{ℕ, _+_, _*_, _/_}
-use mathlib.Core.Path.{_≡_}
 use mathlib.Core.Bool.{Bool, true, false, not, _&&_, _||_}
 use mathlib.Core.List.{List, [], _∷_}
 use lib.Dec.{ltb, eqb}
 use lib.IntN.{ℤ, pos}
 use lib.Signed.{leZ}
-use Rattle.refusal.specs.declared.Verdict.{Verdict}
-use Rattle.refusal.specs.declared.Verdict.the-variants.{Accepted, Refused}
-use Rattle.refusal.specs.Table.{Row, row, verdict}
-use Rattle.datatype.specs.declared.Format.{Format}
+use Rattle.refusal.specs.Table.{Row, row, verdict, decided}
 use Rattle.datatype.specs.declared.Datatype.{Datatype}
 use Rattle.datatype.specs.declared.Datatype.the-variants.{Known, Unknown}
 use Rattle.datatype.specs.Datatypes.{datatypeOf, isNumber}
 use Rattle.offset.specs.Offset.{isWhole, wholeOf, offsetLimit}
-use Rattle.grid.specs.Axes.{dimAt, extent, firstBelow, imageBytes, imageLimit}
+use Rattle.number.specs.Natural.{naturalOf}
+use Rattle.grid.specs.Axes.{dimAt, firstBelow, imageBytes, imageLimit}
 use Rattle.header.specs.declared.Header.{Header}
 use Rattle.header.specs.declared.Kind.{Kind}
 use Rattle.header.specs.declared.Kind.the-variants.{Single, Pair}
@@ -30,7 +27,7 @@ oneToSeven z = leZ (pos 1) z && leZ z (pos 7)
 
 -- dim[0], the number of axes
 abbrev pub axisCount : List ℤ → ℕ
-axisCount dim = extent (dimAt dim 0)
+axisCount dim = naturalOf (dimAt dim 0)
 
 -- rule 5's i: the least of 1..dim[0] for which dim[i] is below 1, and 0 where there is none
 abbrev pub firstBad : Shape → ℕ
@@ -43,7 +40,7 @@ isKnown Unknown = false
 
 -- rule 7: bitpix is the datatype's
 abbrev pub statesBits : Datatype → ℤ → Bool
-statesBits (Known t) bitpix = isNumber bitpix (extent (t .bits))
+statesBits (Known t) bitpix = isNumber bitpix (naturalOf (t .bits))
 statesBits Unknown bitpix = false
 
 -- rule 9, of a whole voxel offset and the length of the header file. A record that is written has no file: its length is 0.
@@ -53,7 +50,7 @@ offsetOutside Pair offset len = ltb offsetLimit offset || ltb offsetLimit len
 
 -- "Image bytes are dim[1] × .. × dim[dim[0]] × bitpix / 8"
 abbrev pub bytesOfImage : Shape → ℕ
-bytesOfImage f = imageBytes (f .dim) (axisCount (f .dim)) (extent (f .bitpix) / 8)
+bytesOfImage f = imageBytes (f .dim) (axisCount (f .dim)) (naturalOf (f .bitpix) / 8)
 
 -- rules 5 to 10, in the table's order
 abbrev pub fieldRows : Shape → ℕ → List Row
@@ -70,13 +67,9 @@ fieldRows f len =
 abbrev pub imageOf : Shape → Image
 imageOf f = record { offset = wholeOf (f .«vox_offset»); bytes = bytesOfImage f }
 
-abbrev pub judgedBy : Verdict → Image → Judged
-judgedBy Accepted i = Passed i
-judgedBy (Refused r) i = Failed r
-
 -- fields that none of the rules refuses, with their image; or the first refusal
 unfoldable pub judgedOf : Shape → ℕ → Judged
-judgedOf f len = judgedBy (verdict (fieldRows f len)) (imageOf f)
+judgedOf f len = decided (verdict (fieldRows f len)) (Passed (imageOf f)) Failed
 
 -- the same of a record, as the writer judges it. 01-scope.md: "It refuses 2 when the record's dim[0] is not in 1..7 .., then 5..10
 -- as a reader in the record's order would (the pair's file length in 9 apart)".
@@ -94,16 +87,30 @@ abbrev pub recordRows : Header → List Row
 recordRows h = row 2 (not (oneToSeven (dimAt (h .dim) 0))) 40 ∷ fieldRows (shapeOfRecord h) 0
 
 unfoldable pub recordJudged : Header → Judged
-recordJudged h = judgedBy (verdict (recordRows h)) (imageOf (shapeOfRecord h))
+recordJudged h = decided (verdict (recordRows h)) (Passed (imageOf (shapeOfRecord h))) Failed
 
--- that rules 5 and 6 have passed, and which format the datatype has
-pub record HasFormat (f : Shape) (t : Format) : Type 0 where
-  pub axes : firstBad f ≡ 0
-  pub known : datatypeOf (f .datatype) ≡ Known t
+-- ---- The image in its file
 
--- that rules 7 and 8 have passed too, with the bytes of a voxel and the voxel offset as a whole number
-pub record HasOffset (f : Shape) (t : Format) (at : ℕ) : Type 0 where
-  pub format : HasFormat f t
-  pub bits : isNumber (f .bitpix) (extent (t .bits)) ≡ true
-  pub whole : isWhole (f .«vox_offset») ≡ true
-  pub value : wholeOf (f .«vox_offset») ≡ at
+-- "shorter than vox_offset + image bytes"
+abbrev pub isShort : ℕ → Image → Bool
+isShort len image = ltb len (image .offset + image .bytes)
+
+-- rule 11: a single file is
+abbrev pub cutShort : Kind → ℕ → Image → Bool
+cutShort Single len image = isShort len image
+cutShort Pair len image = false
+
+-- rule 16: a pair's image file is
+abbrev pub imageCut : Kind → ℕ → Image → Bool
+imageCut Single len image = false
+imageCut Pair len image = isShort len image
+
+-- "part of the file or of the image file, whichever holds them: the first for a single file, the second for a pair"
+abbrev pub holder : Kind → List ℕ → List ℕ → List ℕ
+holder Single file image = file
+holder Pair file image = image
+
+-- the region of the extensions "ends at vox_offset (single) or the file's end (pair)"; the file has `len` bytes
+abbrev pub regionEnd : Kind → Image → ℕ → ℕ
+regionEnd Single image len = image .offset
+regionEnd Pair image len = len

@@ -1,8 +1,13 @@
-// Rules 5 to 10 of the refusal table: what is judged of a header's fields alone, for the reader and for the writer
-// (01-scope.md, "Refusal numbers" and "The header rules").
+// Rules 5 to 10 of the refusal table: what is judged of a header's fields alone, for the reader and for the writer; and
+// rules 11 and 16, whether a file holds the image (01-scope.md, "Refusal numbers" and "The header rules").
 ghost use mathlib.Core.Path.{_≡_};
+ghost use mathlib.Core.Bool.{true};
 ghost use Prim.Native.Nat.{_≤_};
-ghost use Rattle.rules.specs.Rules.{judgedOf, recordJudged, offsetOutside, axisCount, HasFormat, HasOffset};
+ghost use Rattle.number.specs.Natural.{naturalOf};
+ghost use Rattle.datatype.specs.Datatypes.{datatypeOf, isNumber};
+ghost use Rattle.offset.specs.Offset.{isWhole, wholeOf};
+ghost use Rattle.rules.specs.Rules.{judgedOf, recordJudged, offsetOutside, axisCount, firstBad};
+ghost use Rattle.rules.specs.Rules.{isShort, cutShort, imageCut, regionEnd};
 use datatype::Datatype;
 use datatype::Format;
 use header::Header;
@@ -40,25 +45,27 @@ fn failed(number: u64, place: usize) -> Judged
 pub fn axis_count(dim: &[i16]) -> usize
     ensures { λ r. ⌜ (r ≡ axisCount (now (dim .entry))) × (r ≤ 32767) ⌝ }
 {
-    grid::extent_of(dim, 0) as usize
+    grid::axis_length(dim, 0) as usize
 }
 
 // Rule 9, for a whole voxel offset and the length of the header file.
 fn offset_outside(kind: Kind, offset: u64, len: usize) -> bool
     ensures { λ r. ⌜ r ≡ offsetOutside kind offset len ⌝ }
 {
-    if 134217728 < offset {
+    if offset::LIMIT < offset {
         return true;
     }
     match kind {
         Kind::Single => offset < 352,
-        Kind::Pair => 134217728 < len,
+        Kind::Pair => offset::LIMIT < len as u64,
     }
 }
 
 // Rules 9 and 10.
 fn judge_image(shape: Shape, len: usize, format: Format, at: u64) -> Judged
-    requires { ⌜ HasOffset shape format at ⌝ }
+    requires { ⌜ (firstBad shape ≡ 0) × (datatypeOf (shape .datatype) ≡ Datatype.Known format)
+        × (isNumber (shape .bitpix) (naturalOf (format .bits)) ≡ true)
+        × (isWhole (shape .«vox_offset») ≡ true) × (wholeOf (shape .«vox_offset») ≡ at) ⌝ }
     ensures { λ r. ⌜ r ≡ judgedOf shape len ⌝ }
 {
     let kind = shape.kind;
@@ -67,7 +74,7 @@ fn judge_image(shape: Shape, len: usize, format: Format, at: u64) -> Judged
     }
     let dim = shape.dim;
     let bytes = grid::image_bytes(&dim, axis_count(&dim), format.bytes);
-    if 1099511627776 < bytes {
+    if grid::LIMIT < bytes {
         return failed(10, 40);
     }
     Judged::Passed(Image { offset: at, bytes })
@@ -75,7 +82,7 @@ fn judge_image(shape: Shape, len: usize, format: Format, at: u64) -> Judged
 
 // Rules 7 and 8, and then the rest.
 fn judge_format(shape: Shape, len: usize, format: Format) -> Judged
-    requires { ⌜ HasFormat shape format ⌝ }
+    requires { ⌜ (firstBad shape ≡ 0) × (datatypeOf (shape .datatype) ≡ Datatype.Known format) ⌝ }
     ensures { λ r. ⌜ r ≡ judgedOf shape len ⌝ }
 {
     if shape.bitpix != format.bits {
@@ -130,4 +137,47 @@ pub fn judge_record(h: Header) -> Judged
         },
         0,
     )
+}
+
+// Whether a file of `len` bytes ends before its image does. Offset and bytes are not added: of any two numbers the sum could
+// wrap.
+fn is_short(len: usize, image: Image) -> bool
+    ensures { λ r. ⌜ r ≡ isShort len image ⌝ }
+{
+    let n = len as u64;
+    if n < image.offset {
+        true
+    } else {
+        n - image.offset < image.bytes
+    }
+}
+
+// Rule 11.
+pub fn cut_short(kind: Kind, len: usize, image: Image) -> bool
+    ensures { λ r. ⌜ r ≡ cutShort kind len image ⌝ }
+{
+    match kind {
+        Kind::Single => is_short(len, image),
+        Kind::Pair => false,
+    }
+}
+
+// Rule 16. `len` is the length of a pair's image file.
+pub fn image_cut(kind: Kind, len: usize, image: Image) -> bool
+    ensures { λ r. ⌜ r ≡ imageCut kind len image ⌝ }
+{
+    match kind {
+        Kind::Single => false,
+        Kind::Pair => is_short(len, image),
+    }
+}
+
+// Where the region of the extensions ends, in a file of `len` bytes.
+pub fn region_end(kind: Kind, image: Image, len: usize) -> usize
+    ensures { λ r. ⌜ r ≡ regionEnd kind image len ⌝ }
+{
+    match kind {
+        Kind::Single => image.offset as usize,
+        Kind::Pair => len,
+    }
 }

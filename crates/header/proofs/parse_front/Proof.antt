@@ -1,6 +1,5 @@
 -- `parse_front` meets its contract: each group is the one that its bytes state.
 use Rattle.header.specs.Fields.{headerOf}
-use Rattle.header.proofs.Groups.{key-eq, intent-eq, scale-eq, display-eq, quatern-eq, rows-eq}
 use borrow.Author.Needs.{needs}
 use Rattle.header.proofs.parse_front.Statement.{statement}
 use Rattle.header.proofs.parse_front.Tie as tie
@@ -42,12 +41,12 @@ returns c =
       dim = c0 .dims .ensures i;
       count = a .count;
       spans = a .spans;
-      key = key-eq (c1 .read-key .ensures) i;
-      intent = intent-eq (c2 .read-intent .ensures) i;
-      scale = scale-eq (c3 .read-scale .ensures) i;
-      display = display-eq (c4 .read-display .ensures) i;
-      quatern = quatern-eq (c5 .read-quatern .ensures) i;
-      rows = rows-eq (c .read-rows .ensures) i;
+      key = c1 .read-key .ensures i;
+      intent = c2 .read-intent .ensures i;
+      scale = c3 .read-scale .ensures i;
+      display = c4 .read-display .ensures i;
+      quatern = c5 .read-quatern .ensures i;
+      rows = c .read-rows .ensures i;
     }
 
 pub parse-front-spec : {M : Type 1} → statement M

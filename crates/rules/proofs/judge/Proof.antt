@@ -62,11 +62,10 @@ enum-known-datatype c = search needs
 judge-format-requires : tie.Need-judge-format-requires
 judge-format-requires c κs =
     let d = c .before .before .before in
-    let b = d .before .before .before in
-    record {
-      axes = sym (bad-is b) ∙ none (d .before .before);
-      known = rw (code-same (d .before)) at (sym (d .datatype-of .ensures) ∙ c .before .datatype .given .1);
-    }
+    let b = d .before .before .before in (
+      sym (bad-is b) ∙ none (d .before .before),
+      rw (code-same (d .before)) at (sym (d .datatype-of .ensures) ∙ c .before .datatype .given .1),
+    )
 
 enum-told : tie.Need-enum-told
 enum-told c = search needs

@@ -6,25 +6,27 @@ use mir.Syntax.{w16}
 use mir.Val.{SFits, ofZ}
 use Rattle.datatype.specs.Datatypes.{isNumber}
 use Rattle.datatype.proofs.Sound.{known-sound}
-use Rattle.grid.specs.Axes.{extent}
+use Rattle.number.specs.Natural.{naturalOf}
 use Rattle.offset.specs.Offset.{wholeOf}
 use Rattle.offset.proofs.Answer.{whole-is-whole, whole-value, not-whole-is-not, large-is-whole, large-value}
-use Rattle.rules.specs.Rules.{HasOffset}
-use Rattle.rules.proofs.Judging.{bits-differ, bits-agree, judged-7, judged-8, judged-9, beyond}
+use Rattle.rules.proofs.Judging.{HasFormat, HasOffset, bits-differ, bits-agree, judged-7, judged-8, judged-9, beyond}
 use borrow.Author.Needs.{needs}
 use Rattle.rules.proofs.judge_format.Statement.{statement}
 use Rattle.rules.proofs.judge_format.Tie as tie
+
+formed : (S : tie.Start) → HasFormat (S .args .shape) (S .args .format)
+formed S = record { axes = S .pre .0; known = S .pre .1 }
 
 bitpix-fits : (c : tie.After-struct-told2) → SFits w16 (c .before .before .before .before .args .shape .bitpix)
 bitpix-fits c = record { sfits = search needs }
 
 agree : (c : tie.After-struct-told2)
     → ofZ w16 (c .before .before .before .before .args .shape .bitpix) ≡ ofZ w16 (c .before .before .before .before .args .format .bits)
-    → isNumber (c .before .before .before .before .args .shape .bitpix) (extent (c .before .before .before .before .args .format .bits)) ≡ true
+    → isNumber (c .before .before .before .before .args .shape .bitpix) (naturalOf (c .before .before .before .before .args .format .bits)) ≡ true
 agree c e =
     let S = c .before .before .before .before in
     let a = S .args in
-    bits-agree (a .format) (a .shape .bitpix) (known-sound (a .shape .datatype) (a .format) (S .pre .known)) (bitpix-fits c) e
+    bits-agree (a .format) (a .shape .bitpix) (known-sound (a .shape .datatype) (a .format) (S .pre .1)) (bitpix-fits c) e
 
 failed-requires : tie.Need-failed-requires
 failed-requires c κs = search needs
@@ -35,8 +37,8 @@ returns c =
     let S = b .before .before .before .before in
     let a = S .args in
     c .failed .ensures
-    ∙ judged-7 (a .shape) (a .len) (a .format) (S .pre)
-    (bits-differ (a .format) (a .shape .bitpix) (known-sound (a .shape .datatype) (a .format) (S .pre .known)) (bitpix-fits b) (c .before .if1 .taken))
+    ∙ judged-7 (a .shape) (a .len) (a .format) (formed S)
+    (bits-differ (a .format) (a .shape .bitpix) (known-sound (a .shape .datatype) (a .format) (S .pre .1)) (bitpix-fits b) (c .before .if1 .taken))
 
 decode-requires : tie.Need-decode-requires
 decode-requires c κs = search needs
@@ -50,13 +52,13 @@ judge-image-requires c κs =
     let b = d .before .before in
     let S = b .before .before .before .before in
     let a = S .args in
-    let e = sym (d .decode .ensures) ∙ c .before .offset .given .1 in
-    record {
-      format = S .pre;
-      bits = agree b (d .before .if1 .left);
-      whole = whole-is-whole (a .shape .«vox_offset») (c .before .offset .given .0 .0) e;
-      value = whole-value (a .shape .«vox_offset») (c .before .offset .given .0 .0) e;
-    }
+    let e = sym (d .decode .ensures) ∙ c .before .offset .given .1 in (
+      S .pre .0,
+      S .pre .1,
+      agree b (d .before .if1 .left),
+      whole-is-whole (a .shape .«vox_offset») (c .before .offset .given .0 .0) e,
+      whole-value (a .shape .«vox_offset») (c .before .offset .given .0 .0) e,
+    )
 
 enum-told : tie.Need-enum-told
 enum-told c = search needs
@@ -80,7 +82,7 @@ returns-3 c =
     let S = b .before .before .before .before in
     let a = S .args in
     let e = sym (d .decode .ensures) ∙ c .before .enum-told .given .1 in
-    c .failed2 .ensures ∙ judged-8 (a .shape) (a .len) (a .format) (S .pre) (agree b (d .before .if1 .left)) (not-whole-is-not (a .shape .«vox_offset») e)
+    c .failed2 .ensures ∙ judged-8 (a .shape) (a .len) (a .format) (formed S) (agree b (d .before .if1 .left)) (not-whole-is-not (a .shape .«vox_offset») e)
 
 returns-4 : tie.Need-returns-4
 returns-4 c =
@@ -90,7 +92,7 @@ returns-4 c =
     let a = S .args in
     let e = sym (d .decode .ensures) ∙ c .before .enum-told2 .given .1 in
     let o : HasOffset (a .shape) (a .format) (wholeOf (a .shape .«vox_offset»)) = record {
-      format = S .pre;
+      format = formed S;
       bits = agree b (d .before .if1 .left);
       whole = large-is-whole (a .shape .«vox_offset») e;
       value = refl;

@@ -3,10 +3,19 @@ use mathlib.Core.Path.{_≡_, sym, _∙_}
 use native.Mathlib.Omega.{arith}
 use Rattle.rules.specs.Rules.{bytesOfImage}
 use Rattle.rules.specs.declared.Judged.the-variants.{Passed}
-use Rattle.rules.proofs.Judging.{judged-9, judged-10, judged-passed, image-is}
+use Rattle.rules.proofs.Judging.{HasOffset, judged-9, judged-10, judged-passed, image-is}
 use borrow.Author.Needs.{needs}
 use Rattle.rules.proofs.judge_image.Statement.{statement}
 use Rattle.rules.proofs.judge_image.Tie as tie
+
+offered : (S : tie.Start) → HasOffset (S .args .shape) (S .args .format) (S .args .at)
+offered S =
+    record {
+      format = record { axes = S .pre .0; known = S .pre .1 };
+      bits = S .pre .2;
+      whole = S .pre .3;
+      value = S .pre .4;
+    }
 
 offset-outside-requires : tie.Need-offset-outside-requires
 offset-outside-requires c κs = search needs
@@ -18,7 +27,7 @@ returns : tie.Need-returns
 returns c =
     let S = c .before .before .before in
     let a = S .args in
-    c .failed .ensures ∙ judged-9 (a .shape) (a .len) (a .format) (a .at) (S .pre) (sym (c .before .before .offset-outside .ensures) ∙ c .before .if1 .taken)
+    c .failed .ensures ∙ judged-9 (a .shape) (a .len) (a .format) (a .at) (offered S) (sym (c .before .before .offset-outside .ensures) ∙ c .before .if1 .taken)
 
 slice-aggregate-image-bytes : tie.Need-slice-aggregate-image-bytes
 slice-aggregate-image-bytes c = search needs
@@ -41,8 +50,8 @@ returns-2 c =
     let S = b .before .before .before .before .before .before .before in
     let a = S .args in
     let inside = sym (b .before .before .before .before .before .before .offset-outside .ensures) ∙ b .before .before .before .before .before .if1 .left in
-    let total = b .image-bytes .ensures ∙ image-is (a .shape) (a .len) (a .format) (a .at) (S .pre) (b .before .axis-count .ensures .0) in
-    c .failed2 .ensures ∙ judged-10 (a .shape) (a .len) (a .format) (a .at) (S .pre) inside (omega (arith, total))
+    let total = b .image-bytes .ensures ∙ image-is (a .shape) (a .len) (a .format) (a .at) (offered S) (b .before .axis-count .ensures .0) in
+    c .failed2 .ensures ∙ judged-10 (a .shape) (a .len) (a .format) (a .at) (offered S) inside (omega (arith, total))
 
 returns-3 : tie.Need-returns-3
 returns-3 c =
@@ -50,10 +59,10 @@ returns-3 c =
     let S = b .before .before .before .before .before .before .before in
     let a = S .args in
     let inside = sym (b .before .before .before .before .before .before .offset-outside .ensures) ∙ b .before .before .before .before .before .if1 .left in
-    let total = b .image-bytes .ensures ∙ image-is (a .shape) (a .len) (a .format) (a .at) (S .pre) (b .before .axis-count .ensures .0) in
+    let total = b .image-bytes .ensures ∙ image-is (a .shape) (a .len) (a .format) (a .at) (offered S) (b .before .axis-count .ensures .0) in
     let same : b .image-bytes .result ≡ bytesOfImage (a .shape) = omega (arith, total) in
-    (λ i. Passed (record { offset = sym (S .pre .value) i; bytes = same i }))
-    ∙ judged-passed (a .shape) (a .len) (a .format) (a .at) (S .pre) inside (omega (arith, total))
+    (λ i. Passed (record { offset = sym (S .pre .4) i; bytes = same i }))
+    ∙ judged-passed (a .shape) (a .len) (a .format) (a .at) (offered S) inside (omega (arith, total))
 
 pub judge-image-spec : {M : Type 1} → statement M
 judge-image-spec =

@@ -5,9 +5,10 @@ use native.Mathlib.Omega.{arith}
 use borrow.Author.Tests.{le-leb, lt-leb}
 use mir.Syntax.{w16}
 use mir.Val.{toZ, ofZ}
+use Rattle.number.specs.Natural.{naturalOf}
 use Rattle.grid.specs.Axes.{dimAt}
 use Rattle.rules.specs.Rules.{oneToSeven, axisCount}
-use Rattle.rules.proofs.Seven.{seven-extent, record-2, record-rest}
+use Rattle.rules.proofs.Seven.{seven-naturalOf, record-2, record-rest}
 use borrow.Author.Needs.{needs}
 use Rattle.rules.proofs.judge_record.Statement.{statement}
 use Rattle.rules.proofs.judge_record.Tie as tie
@@ -16,20 +17,20 @@ few : (c : tie.Then1) → oneToSeven (dimAt (c .before .before .before .before .
 few c =
     let z = dimAt (c .before .before .before .before .args .h .dim) 0 in
     let n = axisCount (c .before .before .before .before .args .h .dim) in
-    seven-extent z ∙ rw (lt-leb 1 n (omega (arith, c .before .axis-count .ensures .0)))
+    seven-naturalOf z ∙ rw (lt-leb 1 n (omega (arith, c .before .axis-count .ensures .0)))
 
 many : (c : tie.Then2) → oneToSeven (dimAt (c .before .before .before .before .before .args .h .dim) 0) ≡ false
 many c =
     let z = dimAt (c .before .before .before .before .before .args .h .dim) 0 in
     let n = axisCount (c .before .before .before .before .before .args .h .dim) in
-    seven-extent z
+    seven-naturalOf z
     ∙ rw (le-leb 1 n (omega (arith, c .before .before .axis-count .ensures .0)), lt-leb n 7 (omega (arith, c .before .before .axis-count .ensures .0)))
 
 held : (c : tie.Else2) → oneToSeven (dimAt (c .before .before .before .before .before .args .h .dim) 0) ≡ true
 held c =
     let z = dimAt (c .before .before .before .before .before .args .h .dim) 0 in
     let n = axisCount (c .before .before .before .before .before .args .h .dim) in
-    seven-extent z
+    seven-naturalOf z
     ∙ rw (le-leb 1 n (omega (arith, c .before .before .axis-count .ensures .0)), le-leb n 7 (omega (arith, c .before .before .axis-count .ensures .0)))
 
 slice-aggregate-axis-count : tie.Need-slice-aggregate-axis-count

@@ -1,0 +1,121 @@
+-- What is judged of a file's first 352 bytes and its length: the refusal table, rules 1 to 12, in its order (01-scope.md, "Refusal
+-- numbers", "The header rules", "Extensions").
+use Prim.Native.Nat.{ℕ}
+use mathlib.Core.Bool.{Bool, true, false, not, cond, _&&_, _||_}
+use mathlib.Core.List.{List, [], _∷_, _++_}
+use lib.Dec.{ltb, eqb}
+use lib.ListN.{length}
+use Rattle.field.specs.declared.Order.{Order}
+use Rattle.field.specs.declared.Order.the-variants.{Little, Big}
+use Rattle.field.specs.Numbers.{bytesAt, u32At, i16At, i32At, i16sAt}
+use Rattle.refusal.specs.Table.{Row, row, verdict, decided}
+use Rattle.datatype.specs.Datatypes.{isNumber}
+use Rattle.header.specs.declared.Kind.{Kind}
+use Rattle.header.specs.declared.Kind.the-variants.{Single, Pair}
+use Rattle.header.specs.Fields.{magicOf}
+use Rattle.rules.specs.declared.Shape.{Shape}
+use Rattle.rules.specs.declared.Image.{Image}
+use Rattle.rules.specs.Rules.{oneToSeven, fieldRows, imageOf, cutShort, regionEnd}
+use Rattle.layout.specs.declared.Start.{Start}
+use Rattle.layout.specs.declared.Start.the-variants.{Read, Unread}
+use Rattle.layout.specs.declared.Layout.{Layout}
+use Rattle.layout.specs.declared.Checked.{Checked}
+use Rattle.layout.specs.declared.Checked.the-variants.{Fits, Breaks}
+
+-- dim[0], as it reads in a byte order, is in 1..7
+unfoldable pub holdsIn : Order → List ℕ → Bool
+holdsIn order s = oneToSeven (i16At order s 40)
+
+-- "The byte order is the one in which dim[0] is in 1..7."
+unfoldable pub orderOf : List ℕ → Order
+orderOf s = cond (holdsIn Little s) Little Big
+
+-- whether two lists of bytes are the same
+abbrev pub sameBytes : List ℕ → List ℕ → Bool
+sameBytes [] [] = true
+sameBytes [] (b ∷ bs) = false
+sameBytes (a ∷ l) [] = false
+sameBytes (a ∷ l) (b ∷ bs) = eqb a b && sameBytes l bs
+
+-- the magic: n+1 of a single file, ni1 of a pair
+unfoldable pub hasMagic : Kind → List ℕ → Bool
+hasMagic kind s = sameBytes (bytesAt 344 4 s) (magicOf kind)
+
+unfoldable pub kindOf : List ℕ → Kind
+kindOf s = cond (hasMagic Single s) Single Pair
+
+-- rules 1 to 4. Here and below `len` is the file's length, and of its bytes s the first 352 are enough.
+abbrev pub headRows : List ℕ → ℕ → List Row
+headRows s len =
+    row 1 (ltb len 348) 0
+    ∷ row 2 (not (holdsIn Little s || holdsIn Big s)) 40
+    ∷ row 3 (not (isNumber (i32At (orderOf s) s 0) 348)) 0
+    ∷ row 4 (not (hasMagic Single s || hasMagic Pair s)) 344
+    ∷ []
+
+-- what is known of a file that these pass: its byte order and kind
+unfoldable pub startIn : List ℕ → ℕ → Start
+startIn s len = decided (verdict (headRows s len)) (Read (orderOf s) (kindOf s)) Unread
+
+-- the fields that rules 5 to 10 judge, in an order
+unfoldable pub shapeIn : Order → Kind → List ℕ → Shape
+shapeIn order kind s =
+    record {
+      kind = kind;
+      dim = i16sAt order s 40 8;
+      datatype = i16At order s 70;
+      bitpix = i16At order s 72;
+      «vox_offset» = u32At order s 108;
+    }
+
+abbrev pub shapeOf : List ℕ → Shape
+shapeOf s = shapeIn (orderOf s) (kindOf s) s
+
+-- the four bytes at 348. "A pair's header file of 348 bytes has extender 0,0,0,0": past the end there are zeros.
+abbrev pub extenderOf : List ℕ → List ℕ
+extenderOf s = bytesAt 348 4 s
+
+abbrev pub noExtensions : List ℕ
+noExtensions = 0 ∷ 0 ∷ 0 ∷ 0 ∷ []
+
+abbrev pub someExtensions : List ℕ
+someExtensions = 1 ∷ 0 ∷ 0 ∷ 0 ∷ []
+
+unfoldable pub hasExtensions : List ℕ → Bool
+hasExtensions s = sameBytes (extenderOf s) someExtensions
+
+unfoldable pub hasNone : List ℕ → Bool
+hasNone s = sameBytes (extenderOf s) noExtensions
+
+-- rule 12: a pair of length 349..351
+abbrev pub cutExtender : Kind → ℕ → Bool
+cutExtender Single len = false
+cutExtender Pair len = ltb 348 len && ltb len 352
+
+-- rules 11 and 12
+abbrev pub endRows : Kind → Image → List ℕ → ℕ → List Row
+endRows kind image s len =
+    row 11 (cutShort kind len image) 108
+    ∷ row 12 (cutExtender kind len || not (hasNone s || hasExtensions s)) 348
+    ∷ []
+
+-- rules 1 to 12
+abbrev pub rowsIn : List ℕ → ℕ → List Row
+rowsIn s len = headRows s len ++ (fieldRows (shapeOf s) len ++ endRows (kindOf s) (imageOf (shapeOf s)) s len)
+
+abbrev pub fileRows : List ℕ → List Row
+fileRows s = rowsIn s (length s)
+
+-- what is known of a file that these pass: its byte order, its kind, and where its image is
+abbrev pub layoutOf : List ℕ → Layout
+layoutOf s = record { order = orderOf s; kind = kindOf s; image = imageOf (shapeOf s) }
+
+unfoldable pub checkedIn : List ℕ → ℕ → Checked
+checkedIn s len = decided (verdict (rowsIn s len)) (Fits (layoutOf s)) Breaks
+
+abbrev pub checkedOf : List ℕ → Checked
+checkedOf s = checkedIn s (length s)
+
+-- where the region of the extensions ends in a whole file
+unfoldable pub endOf : List ℕ → ℕ
+endOf s = regionEnd (kindOf s) (imageOf (shapeOf s)) (length s)

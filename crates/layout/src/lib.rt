@@ -1,0 +1,204 @@
+// The layout of a file, by rules 1 to 12: its byte order, its kind and where its image is (01-scope.md, "Refusal numbers",
+// "The header rules"). Of a file's bytes the first 352 are enough, with its length beside them.
+ghost use mathlib.Core.Path.{_≡_};
+ghost use mathlib.Core.List.{[], _∷_};
+ghost use Prim.Native.Nat.{_<_};
+ghost use lib.ListN.{length};
+ghost use Rattle.field.specs.Numbers.{bytesAt};
+ghost use Rattle.refusal.specs.Table.{verdict};
+ghost use Rattle.layout.specs.File.{sameBytes, holdsIn, orderOf, hasMagic, kindOf, startIn, shapeIn, cutExtender};
+ghost use Rattle.layout.specs.File.{hasNone, hasExtensions, endRows, checkedIn, checkedOf};
+use field::Order;
+use header::Kind;
+use refusal::Refusal;
+use refusal::Verdict;
+use rules::Image;
+use rules::Judged;
+use rules::Shape;
+
+// What rules 1 to 4 leave known: a file's byte order and kind; or their refusal.
+pub enum Start {
+    Read(Order, Kind),
+    Unread(Refusal),
+}
+
+// What rules 1 to 12 leave known.
+pub struct Layout {
+    pub order: Order,
+    pub kind: Kind,
+    pub image: Image,
+}
+
+pub enum Checked {
+    Fits(Layout),
+    Breaks(Refusal),
+}
+
+// Whether the four bytes at a place are these.
+fn is_four(file: &[u8], at: usize, a: u8, b: u8, c: u8, d: u8) -> bool
+    requires { ⌜ at < 4294967296 ⌝ }
+    ensures { λ r. ⌜ r ≡ sameBytes (bytesAt at 4 (now (file .entry))) (a ∷ b ∷ c ∷ d ∷ []) ⌝ }
+{
+    let first = field::byte_at(file, at) == a;
+    let second = field::byte_at(file, at + 1) == b;
+    let third = field::byte_at(file, at + 2) == c;
+    let fourth = field::byte_at(file, at + 3) == d;
+    first & (second & (third & fourth))
+}
+
+// Whether dim[0] is in 1..7 in a byte order.
+fn holds_in(file: &[u8], order: Order) -> bool
+    ensures { λ r. ⌜ r ≡ holdsIn order (now (file .entry)) ⌝ }
+{
+    let n = field::read_i16(file, 40, order);
+    (1 <= n) & (n <= 7)
+}
+
+// The byte order of a file that rule 2 passes.
+pub fn order_of(file: &[u8]) -> Order
+    ensures { λ r. ⌜ r ≡ orderOf (now (file .entry)) ⌝ }
+{
+    if holds_in(file, Order::Little) {
+        Order::Little
+    } else {
+        Order::Big
+    }
+}
+
+fn has_magic(file: &[u8], kind: Kind) -> bool
+    ensures { λ r. ⌜ r ≡ hasMagic kind (now (file .entry)) ⌝ }
+{
+    match kind {
+        Kind::Single => is_four(file, 344, b'n', b'+', b'1', 0),
+        Kind::Pair => is_four(file, 344, b'n', b'i', b'1', 0),
+    }
+}
+
+// The kind of a file that rule 4 passes.
+pub fn kind_of(file: &[u8]) -> Kind
+    ensures { λ r. ⌜ r ≡ kindOf (now (file .entry)) ⌝ }
+{
+    if has_magic(file, Kind::Single) {
+        Kind::Single
+    } else {
+        Kind::Pair
+    }
+}
+
+fn unread(number: u64, place: usize) -> Start
+    ensures { λ r. ⌜ r ≡ Start.Unread (record { number = number; place = place }) ⌝ }
+{
+    Start::Unread(Refusal { number, place })
+}
+
+// Rules 1 to 4 of a file of `len` bytes.
+fn start_in(file: &[u8], len: usize) -> Start
+    ensures { λ r. ⌜ r ≡ startIn (now (file .entry)) len ⌝ }
+{
+    if len < 348 {
+        return unread(1, 0);
+    }
+    let order = order_of(file);
+    if !holds_in(file, order) {
+        return unread(2, 40);
+    }
+    if field::read_i32(file, 0, order) != 348 {
+        return unread(3, 0);
+    }
+    let kind = kind_of(file);
+    if !has_magic(file, kind) {
+        return unread(4, 344);
+    }
+    Start::Read(order, kind)
+}
+
+// The fields that rules 5 to 10 judge.
+fn shape_in(file: &[u8], order: Order, kind: Kind) -> Shape
+    ensures { λ r. ⌜ r ≡ shapeIn order kind (now (file .entry)) ⌝ }
+{
+    Shape {
+        kind,
+        dim: header::dims(file, order),
+        datatype: field::read_i16(file, 70, order),
+        bitpix: field::read_i16(file, 72, order),
+        vox_offset: field::read_u32(file, 108, order),
+    }
+}
+
+// Rule 12, of a header file's length.
+fn cut_extender(kind: Kind, len: usize) -> bool
+    ensures { λ r. ⌜ r ≡ cutExtender kind len ⌝ }
+{
+    match kind {
+        Kind::Single => false,
+        Kind::Pair => (348 < len) & (len < 352),
+    }
+}
+
+fn has_none(file: &[u8]) -> bool
+    ensures { λ r. ⌜ r ≡ hasNone (now (file .entry)) ⌝ }
+{
+    is_four(file, 348, 0, 0, 0, 0)
+}
+
+pub fn has_extensions(file: &[u8]) -> bool
+    ensures { λ r. ⌜ r ≡ hasExtensions (now (file .entry)) ⌝ }
+{
+    is_four(file, 348, 1, 0, 0, 0)
+}
+
+// Rules 11 and 12.
+fn check_end(file: &[u8], len: usize, kind: Kind, image: Image) -> Verdict
+    ensures { λ r. ⌜ r ≡ verdict (endRows kind image (now (file .entry)) len) ⌝ }
+{
+    if rules::cut_short(kind, len, image) {
+        return Verdict::Refused(Refusal {
+            number: 11,
+            place: 108,
+        });
+    }
+    let extender = has_none(file) | has_extensions(file);
+    if cut_extender(kind, len) | !extender {
+        return Verdict::Refused(Refusal {
+            number: 12,
+            place: 348,
+        });
+    }
+    Verdict::Accepted
+}
+
+// Rules 5 to 12 of a file that 1 to 4 pass.
+fn check_fields(file: &[u8], len: usize, order: Order, kind: Kind) -> Checked
+    requires { ⌜ startIn (now file) len ≡ Start.Read order kind ⌝ }
+    ensures { λ r. ⌜ r ≡ checkedIn (now (file .entry)) len ⌝ }
+{
+    let judged = rules::judge(shape_in(file, order, kind), len);
+    match judged {
+        Judged::Failed(r) => Checked::Breaks(r),
+        Judged::Passed(image) => {
+            let end = check_end(file, len, kind, image);
+            match end {
+                Verdict::Refused(r) => Checked::Breaks(r),
+                Verdict::Accepted => Checked::Fits(Layout { order, kind, image }),
+            }
+        }
+    }
+}
+
+// Rules 1 to 12 of a file of `len` bytes.
+pub fn check_in(file: &[u8], len: usize) -> Checked
+    ensures { λ r. ⌜ r ≡ checkedIn (now (file .entry)) len ⌝ }
+{
+    let start = start_in(file, len);
+    match start {
+        Start::Unread(r) => Checked::Breaks(r),
+        Start::Read(order, kind) => check_fields(file, len, order, kind),
+    }
+}
+
+// The same of a whole file.
+pub fn check(file: &[u8]) -> Checked
+    ensures { λ r. ⌜ r ≡ checkedOf (now (file .entry)) ⌝ }
+{
+    check_in(file, file.len())
+}
