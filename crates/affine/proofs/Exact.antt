@@ -2,7 +2,8 @@
 use mathlib.Core.Path.{_≡_, refl, sym, ap, _∙_, subst}
 use mathlib.Core.Bool.{Bool, true, false, not, cond, _&&_, Bool·beq}
 use Prim.Native.Nat.{ℕ, zero, suc, _+_, _-_, _*_, _^_, _≤_, _<_}
-use native.Mathlib.Nat.{mul-one, mul-zero, zero-mul, add-mul, mul-comm, mul-assoc, mul-mul-mul-comm, mul-pos, mul-sub, mul-le-mul, le-trans, zero-lt-suc, mul-lt-mul-of-pos-right, lt-of-mul-lt-mul-right}
+use native.Mathlib.Nat.{mul-one, mul-zero, zero-mul, add-mul, mul-comm, mul-assoc, mul-mul-mul-comm, mul-pos, mul-sub}
+use native.Mathlib.Nat.{mul-le-mul, le-trans, zero-lt-suc, mul-lt-mul-of-pos-right, lt-of-mul-lt-mul-right}
 use native.Mathlib.Omega.{arith}
 use lib.Dec.{T, ltb, ltb→lt, lt→ltb, nltb→le}
 use lib.IntN.{ℤ, pos, negsuc, negℤ, natAbs, _+ℤ_, _*ℤ_, negℤ-+ℤ, +ℤ-comm}
@@ -141,7 +142,8 @@ sum-within false false a b B h k = rounded false (a + b) (pos (a + b)) B h k ref
 sum-within true true a b B h k = rounded true (a + b) (negℤ (pos a) +ℤ negℤ (pos b)) B h k (negℤ-+ℤ (pos a) (pos b))
 sum-within false true a b B h k = go (ltb a b) (ltb→lt a b) (nltb→le a b)
   where
-    go : (t : Bool) → (T t → a < b) → (T (not t) → b ≤ a) → Within (cond t (round binary32 true (b - a) 1) (round binary32 false (a - b) 1)) (pos a +ℤ negℤ (pos b)) B
+    go : (t : Bool) → (T t → a < b) → (T (not t) → b ≤ a)
+        → Within (cond t (round binary32 true (b - a) 1) (round binary32 false (a - b) 1)) (pos a +ℤ negℤ (pos b)) B
     go true l g = rounded true (b - a) (pos a +ℤ negℤ (pos b)) B (omega arith) k (sym (below a b (l tt)))
     go false l g = rounded false (a - b) (pos a +ℤ negℤ (pos b)) B (omega arith) k (sym (above a b (g tt)))
 sum-within true false a b B h k = go (ltb a b) (ltb b a) (ltb→lt a b) (ltb→lt b a) (nltb→le a b) (nltb→le b a)

@@ -8,7 +8,8 @@ use lib.IntN.{pos, negsuc}
 use lib.Ieee.{binary32, add, mul, ofInt, ofBits, toBits}
 use Rattle.affine.specs.declared.Placed.{Placed}
 use Rattle.affine.specs.declared.Placed.the-variants.{At, NoPosition}
-use Rattle.affine.specs.Method.{placedAt, finiteRow, positionOf}
+use Rattle.refusal.specs.Table.{verdict}
+use Rattle.affine.specs.Method.{finiteRow, positionOf}
 use Rattle.affine.specs.Whole.{WholeRow}
 
 -- the patterns of a position's three values; none where there is no position
@@ -42,7 +43,7 @@ positions : patterns (positionOf roundedRow wholeRow minusRow 185 206 59)
     ∷ patterns (positionOf wholeRow largeRow wholeRow 2 0 0)
     ∷ []
     ≡ (0x42c2_947a ∷ 0xc2d4_0000 ∷ 0x8000_0000 ∷ []) ∷ [] ∷ (0x42c8_0000 ∷ 0x42c8_0000 ∷ 0x7f7f_ffff ∷ []) ∷ [] ∷ []
-unfolding positionOf finiteRow placedAt ofBits toBits ofInt add mul
+unfolding positionOf verdict finiteRow ofBits toBits ofInt add mul
 positions = refl
 
 whole : WholeRow wholeRow

@@ -1,13 +1,13 @@
 -- When a number of binary32 is finite: by comparison with the infinities, and by the exponent's field of its pattern. Assumes nothing.
-use mathlib.Core.Path.{_≡_, refl, sym, ap, _∙_, subst}
+use mathlib.Core.Path.{_≡_, refl, sym, ap, _∙_}
 use mathlib.Core.Bool.{Bool, true, false, not, cond, _&&_, and-eq-true-iff}
 use mathlib.Core.List.{List}
 use Prim.Native.Nat.{ℕ, zero, suc, _+_, _/_, _%_}
 use native.Mathlib.Omega.{arith}
-use lib.Dec.{T, leb, eqb}
-use lib.Ieee.{Float, nan, inf, fin, binary32, lt, odd, ofFields, ofBits, isNan, nanBits}
-use lib.Ieee.Bits.{nanBits-is}
+use lib.Dec.{leb, eqb}
+use lib.Ieee.{Float, nan, inf, fin, binary32, lt, odd, ofFields, ofBits}
 use lib.Ieee.Scale.{finite}
+use Rattle.number.proofs.Floats.{no-nan}
 use Rattle.affine.specs.Method.{finiteRow, NoNan}
 
 pub between-infinities : (x : Float) → (lt (inf true) x && lt x (inf false)) ≡ finite x
@@ -40,16 +40,7 @@ pattern-finite b = ap (λ (x : ℕ). not (eqb x 255)) (field b) ∙ sym (fields-
     field : (b : ℕ) → b / 8388608 % 256 ≡ b % 2147483648 / 8388608
     field b = omega arith
 
--- ---- a finite pattern is no NaN's
-finite-no-nan : (x : Float) → finite x ≡ true → isNan x ≡ false
-unfolding isNan
-finite-no-nan nan e = sym e
-finite-no-nan (inf s) e = refl
-finite-no-nan (fin s m z) e = refl
-
-no-nan : (b : ℕ) → finite (ofBits binary32 b) ≡ true → T (not (nanBits binary32 b))
-no-nan b h = subst (λ (x : Bool). T (not x)) (sym (nanBits-is binary32 b ∙ finite-no-nan (ofBits binary32 b) h)) tt
-
+-- ---- a finite row has no NaN
 pub finite-row : (row : List ℕ) → finiteRow row ≡ true → NoNan row
 unfolding finiteRow
 finite-row row e =

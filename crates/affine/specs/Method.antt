@@ -1,13 +1,15 @@
 -- The position by Method 3 in binary32 (01-scope.md, "Slices and positions", second paragraph). A row, as srow_x, is the list of its four
 -- numbers' bit patterns. What a row holds past its end counts as 0.
 use Prim.Native.Nat.{ℕ}
-use mathlib.Core.Bool.{Bool, cond, not, _&&_}
-use mathlib.Core.List.{List}
+use mathlib.Core.Bool.{Bool, not, _&&_, _||_}
+use mathlib.Core.List.{List, [], _∷_}
 use lib.ListN.{getD}
 use lib.Dec.{T}
 use lib.IntN.{pos}
 use lib.Ieee.{Float, binary32, add, mul, ofInt, ofBits, nanBits}
 use lib.Ieee.Scale.{finite}
+use Rattle.refusal.specs.Table.{Row, row, verdict, decided}
+use Rattle.affine.specs.declared.Position.{Position}
 use Rattle.affine.specs.declared.Srow.{Srow}
 use Rattle.affine.specs.declared.Placed.{Placed}
 use Rattle.affine.specs.declared.Placed.the-variants.{At, NoPosition}
@@ -27,14 +29,18 @@ rowOf s0 s1 s2 s3 i j k =
     (add binary32 (add binary32 (mul binary32 s0 (indexOf i)) (mul binary32 s1 (indexOf j))) (mul binary32 s2 (indexOf k)))
     s3
 
--- "A position has three values of binary32 kept together"; none where "a result is not finite"
-unfoldable pub placedAt : Float → Float → Float → Placed
-placedAt x y z = cond (finite x && finite y && finite z) (At (record { x = x; y = y; z = z })) NoPosition
+-- "A position has three values of binary32 kept together", here by "the twelve srow numbers as such a record too"
+abbrev pub resultsOf : Srow → ℕ → ℕ → ℕ → Position
+resultsOf s i j k =
+    record {
+      x = rowOf (s .x0) (s .x1) (s .x2) (s .x3) i j k;
+      y = rowOf (s .y0) (s .y1) (s .y2) (s .y3) i j k;
+      z = rowOf (s .z0) (s .z1) (s .z2) (s .z3) i j k;
+    }
 
--- by "the twelve srow numbers as such a record too"
-abbrev pub placedIn : Srow → ℕ → ℕ → ℕ → Placed
-placedIn s i j k =
-    placedAt (rowOf (s .x0) (s .x1) (s .x2) (s .x3) i j k) (rowOf (s .y0) (s .y1) (s .y2) (s .y3) i j k) (rowOf (s .z0) (s .z1) (s .z2) (s .z3) i j k)
+-- all three results are finite
+abbrev pub finiteResults : Position → Bool
+finiteResults p = finite (p .x) && finite (p .y) && finite (p .z)
 
 -- the four numbers of a row are finite
 unfoldable pub finiteRow : List ℕ → Bool
@@ -65,6 +71,14 @@ srowOf x y z =
       z3 = numberAt z 3;
     }
 
--- The position of the voxel i, j, k by the rows x, y and z. There is none exactly when "one of the twelve is not finite, or a result is not finite".
+-- all twelve numbers are finite
+abbrev pub finiteRows : List ℕ → List ℕ → List ℕ → Bool
+finiteRows x y z = finiteRow x && finiteRow y && finiteRow z
+
+-- "23 is given exactly when .. one of the twelve is not finite, or a result is not finite"
+abbrev pub placeRows : List ℕ → List ℕ → List ℕ → ℕ → ℕ → ℕ → List Row
+placeRows x y z i j k = row 23 (not (finiteRows x y z) || not (finiteResults (resultsOf (srowOf x y z) i j k))) 0 ∷ []
+
+-- The position of the voxel i, j, k by the rows x, y and z: its three values, and none where 23 is given.
 unfoldable pub positionOf : List ℕ → List ℕ → List ℕ → ℕ → ℕ → ℕ → Placed
-positionOf x y z i j k = cond (finiteRow x && finiteRow y && finiteRow z) (placedIn (srowOf x y z) i j k) NoPosition
+positionOf x y z i j k = decided (verdict (placeRows x y z i j k)) (At (resultsOf (srowOf x y z) i j k)) (λ r. NoPosition)

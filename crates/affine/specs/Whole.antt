@@ -24,7 +24,15 @@ pub record IsWhole (x : Float) (z : ℤ) : Type 0 where
   pub value : HasValue x sign size 1
   pub is : signed sign size ≡ z
 
--- a row of whole numbers, the first three at most 64 in size and the last at most 8,388,608
+-- of the first three numbers of a row: "at most 64 in size"
+abbrev pub firstLimit : ℕ
+firstLimit = 64
+
+-- of its last: "at most 8,388,608 in size"
+abbrev pub lastLimit : ℕ
+lastLimit = 8388608
+
+-- a row of whole numbers within these limits
 pub record WholeRow (row : List ℕ) : Type 0 where
   pub n0 : ℤ
   pub n1 : ℤ
@@ -34,10 +42,10 @@ pub record WholeRow (row : List ℕ) : Type 0 where
   pub is1 : IsWhole (numberAt row 1) n1
   pub is2 : IsWhole (numberAt row 2) n2
   pub is3 : IsWhole (numberAt row 3) n3
-  pub small0 : natAbs n0 ≤ 64
-  pub small1 : natAbs n1 ≤ 64
-  pub small2 : natAbs n2 ≤ 64
-  pub small3 : natAbs n3 ≤ 8388608
+  pub small0 : natAbs n0 ≤ firstLimit
+  pub small1 : natAbs n1 ≤ firstLimit
+  pub small2 : natAbs n2 ≤ firstLimit
+  pub small3 : natAbs n3 ≤ lastLimit
 
 -- the exact number of such a row at i, j, k
 abbrev pub exactOf : {row : List ℕ} → WholeRow row → ℕ → ℕ → ℕ → ℤ

@@ -4,7 +4,7 @@
 ghost use mathlib.Core.Path.{_≡_};
 ghost use lib.Ieee.{binary32, ofBits};
 ghost use lib.Ieee.Scale.{finite};
-ghost use Rattle.affine.specs.Method.{rowOf, placedAt, placedIn, finiteRow, NoNan, srowOf, positionOf};
+ghost use Rattle.affine.specs.Method.{rowOf, resultsOf, finiteResults, finiteRow, NoNan, srowOf, positionOf};
 
 // A position: its three values together.
 pub struct Position {
@@ -29,7 +29,7 @@ pub struct Srow {
     pub z3: f32,
 }
 
-// The answer: a position, or that there is none.
+// The answer: a position, or that there is none, which is refusal 23.
 pub enum Placed {
     At(Position),
     NoPosition,
@@ -88,25 +88,21 @@ fn row(s0: f32, s1: f32, s2: f32, s3: f32, i: u16, j: u16, k: u16) -> f32
     ((s0 * (i as f32) + s1 * (j as f32)) + s2 * (k as f32)) + s3
 }
 
-// The position of three results, where they are finite.
-fn placed_at(x: f32, y: f32, z: f32) -> Placed
-    ensures { λ r. ⌜ r ≡ placedAt x y z ⌝ }
-{
-    if is_finite(x) & is_finite(y) & is_finite(z) {
-        Placed::At(Position { x, y, z })
-    } else {
-        Placed::NoPosition
-    }
-}
-
-// The position by a record of rows.
-fn placed_in(s: Srow, i: u16, j: u16, k: u16) -> Placed
-    ensures { λ r. ⌜ r ≡ placedIn s i j k ⌝ }
+// The three results together, by a record of rows.
+fn results_of(s: Srow, i: u16, j: u16, k: u16) -> Position
+    ensures { λ r. ⌜ r ≡ resultsOf s i j k ⌝ }
 {
     let x = row(s.x0, s.x1, s.x2, s.x3, i, j, k);
     let y = row(s.y0, s.y1, s.y2, s.y3, i, j, k);
     let z = row(s.z0, s.z1, s.z2, s.z3, i, j, k);
-    placed_at(x, y, z)
+    Position { x, y, z }
+}
+
+// Whether three results are finite.
+fn are_finite(p: Position) -> bool
+    ensures { λ r. ⌜ r ≡ finiteResults p ⌝ }
+{
+    is_finite(p.x) & is_finite(p.y) & is_finite(p.z)
 }
 
 // The position of the voxel with the indexes i, j and k.
@@ -114,8 +110,10 @@ pub fn place(srow_x: [u32; 4], srow_y: [u32; 4], srow_z: [u32; 4], i: u16, j: u1
     ensures { λ r. ⌜ r ≡ positionOf «srow_x» «srow_y» «srow_z» i j k ⌝ }
 {
     if row_is_finite(srow_x) & row_is_finite(srow_y) & row_is_finite(srow_z) {
-        placed_in(srow_of(srow_x, srow_y, srow_z), i, j, k)
-    } else {
-        Placed::NoPosition
+        let p = results_of(srow_of(srow_x, srow_y, srow_z), i, j, k);
+        if are_finite(p) {
+            return Placed::At(p);
+        }
     }
+    Placed::NoPosition
 }

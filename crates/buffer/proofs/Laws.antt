@@ -1,20 +1,15 @@
 -- Laws of `put` (specs/Put.antt), for this crate's proofs and for its callers': a write next to another makes one `put` of both, and
 -- what a write leaves is read off by `take`, `drop` and `getD`.
-use mathlib.Core.Path.{_≡_, refl, sym, ap, _∙_}
-use mathlib.Core.List.{List, [], _∷_, _++_, append-assoc, append-nil}
-use Prim.Native.Nat.{ℕ, zero, suc, _+_, _-_, _≤_, _<_}
-use native.Mathlib.Nat.{zero-sub, suc-sub-suc, sub-zero, add-zero, sub-self, add-sub-cancel-left}
+use mathlib.Core.Path.{_≡_, refl, ap, _∙_}
+use mathlib.Core.List.{List, [], _++_, append-assoc, append-nil}
+use Prim.Native.Nat.{ℕ, _+_, _-_, _≤_, _<_}
+use native.Mathlib.Nat.{add-zero, sub-self}
 use native.Mathlib.Omega.{arith}
 use lib.ListN.{length, getD, take, drop, length-take, length-drop, length-append, take-append-drop}
-use lib.Seq.{length-take-le, take-append-le, drop-append-le, take-append-add, drop-append-add, take-at, drop-at, take-take, drop-drop, take-nil, getD-take, getD-drop, sets, sets-eq}
+use lib.Seq.{length-take-le, take-append-le, drop-append-le, take-append-add, drop-append-add, take-at, drop-at}
+use lib.Seq.{take-take, drop-drop, getD-take, getD-drop, sets, sets-eq}
+use Rattle.number.proofs.Lists.{drop-take-add}
 use Rattle.buffer.specs.Put.{put}
-
--- what lies from m on of the first n is the first n - m of what lies from m on
-pub drop-take : (m n : ℕ) (l : List ℕ) → drop m (take n l) ≡ take (n - m) (drop m l)
-drop-take zero n l = rw sub-zero
-drop-take (suc m) zero l = rw zero-sub
-drop-take (suc m) (suc n) [] = sym (take-nil (suc n - suc m))
-drop-take (suc m) (suc n) (x ∷ xs) = rw suc-sub-suc (drop-take m n xs)
 
 -- nothing written
 pub put-nil : (l : List ℕ) (at : ℕ) → put l at [] ≡ l
@@ -49,9 +44,7 @@ module _ (l : List ℕ) (at : ℕ) (e : List ℕ) where
 
   -- a part before it
   pub part-put : (from n : ℕ) → from + n ≤ at → at ≤ length l → take n (drop from (put l at e)) ≡ take n (drop from l)
-  part-put from n h hl =
-      let part : (x : List ℕ) → take n (drop from x) ≡ drop from (take (from + n) x) = λ x. rw (drop-take, add-sub-cancel-left) in
-      rw (part (put l at e), part l, take-put (from + n) h hl)
+  part-put from n h hl = rw (← drop-take-add from n (put l at e), ← drop-take-add from n l, take-put (from + n) h hl)
 
   -- from its place on
   pub drop-put-at : at ≤ length l → drop at (put l at e) ≡ e ++ drop (at + length e) l

@@ -1,4 +1,4 @@
--- Laws of `replaced` and `settled` (specs/Settled.antt), for the edits: what make_room and a write of e leave is the settled buffer.
+-- Laws of `settled` (specs/Settled.antt), for the edits: what make_room and a write of e leave is the settled buffer.
 use mathlib.Core.Path.{_≡_, refl}
 use mathlib.Core.List.{List, _++_, append-assoc}
 use Prim.Native.Nat.{ℕ, _+_, _-_, _≤_, max}
@@ -6,8 +6,13 @@ use native.Mathlib.Omega.{arith}
 use lib.ListN.{length, take, drop, replicate, length-append, length-take, length-drop, length-replicate}
 use lib.Seq.{take-at, take-take}
 use Rattle.buffer.specs.Put.{put}
-use Rattle.buffer.specs.Settled.{replaced, settled}
-use Rattle.buffer.proofs.Laws.{drop-take, length-put, put-append}
+use Rattle.buffer.specs.Settled.{settled}
+use Rattle.number.proofs.Lists.{drop-take}
+use Rattle.buffer.proofs.Laws.{length-put, put-append}
+
+-- f with e in place of the `old` bytes from `at`: "A single file's bytes from vox_offset to its end slide along, trailing ones included."
+unfoldable pub replaced : List ℕ → ℕ → ℕ → List ℕ → List ℕ
+replaced f at old e = take at f ++ (e ++ drop (at + old) f)
 
 -- the file after an edit is the buffer up to the file's new length
 pub take-settled : (l : List ℕ) (len : ℕ) (g : List ℕ) → take (length g) (settled l len g) ≡ g

@@ -1,5 +1,6 @@
 // Moving bytes within a lent buffer: what the in-place edits of extensions are made of (01-scope.md, "Extensions").
-// Each function says what the whole buffer holds afterwards: `put l at e`, the old bytes l with e in place of as many from `at`.
+// Each function says what the whole buffer holds afterwards: `put l at e`, the old bytes l with e in place of as many
+// from `at`.
 ghost use mathlib.Core.Path.{_≡_};
 ghost use mathlib.Core.List.{_++_};
 ghost use Prim.Native.Nat.{_+_, _-_, _≤_};
@@ -33,8 +34,8 @@ pub fn clear(buf: &mut [u8], at: usize, n: usize)
     }
 }
 
-// At most a block of n bytes from `from` to `to`, whether or not the two places overlap. The bytes go by way of a local array; the
-// compiler makes one memmove of the two copies, and no array.
+// At most a block of n bytes from `from` to `to`, whether or not the two places overlap. The bytes go by way of a local
+// array; the compiler makes one memmove of the two copies, and no array.
 fn slide_block(buf: &mut [u8], from: usize, to: usize, n: usize)
     requires { ⌜ (n ≤ 16384) × ((from + n ≤ length (now buf)) × (to + n ≤ length (now buf))) ⌝ }
     ensures { λ _. ⌜ now (buf .exit) ≡ put (now (buf .entry)) to (take n (drop from (now (buf .entry)))) ⌝ }
@@ -45,7 +46,8 @@ fn slide_block(buf: &mut [u8], from: usize, to: usize, n: usize)
     copy_in(buf, to, &block[0..n]);
 }
 
-// The n bytes from `from` to a place `to` above it, the last block first, so that no byte is written over before it has moved.
+// The n bytes from `from` to a place `to` above it, the last block first, so that no byte is written over before it has
+// moved.
 fn slide_up(buf: &mut [u8], from: usize, to: usize, n: usize)
     requires { ⌜ (from ≤ to) × (to + n ≤ length (now buf)) ⌝ }
     ensures { λ _. ⌜ now (buf .exit) ≡ put (now (buf .entry)) to (take n (drop from (now (buf .entry)))) ⌝ }
@@ -87,8 +89,8 @@ pub fn slide(buf: &mut [u8], from: usize, to: usize, n: usize)
     }
 }
 
-// Room for `new` bytes where `old` bytes stand at `at` in a file of len bytes: what follows them slides along, and where the file
-// shrinks, "the freed bytes become zero". The `new` bytes themselves are the caller's to write.
+// Room for `new` bytes where `old` bytes stand at `at` in a file of len bytes: what follows them slides along, and
+// where the file shrinks, "the freed bytes become zero". The `new` bytes themselves are the caller's to write.
 pub fn make_room(buf: &mut [u8], len: usize, at: usize, old: usize, new: usize)
     requires { ⌜ (at + old ≤ len) × ((len ≤ length (now buf)) × (len + new ≤ length (now buf) + old)) ⌝ }
     ensures { λ _. ⌜ now (buf .exit) ≡ put (now (buf .entry)) (at + new)

@@ -123,8 +123,9 @@ bytes-number order w n h =
 pub word-at : (order : Order) (a r : List ℕ) (n at : ℕ) → length a ≡ at → n < 4294967296 → u32At order (a ++ (bytesOf order 4 n ++ r)) at ≡ n
 unfolding u32At
 word-at order a r n at e h =
-    let s = a ++ (bytesOf order 4 n ++ r) in
+    let own = bytesOf order 4 n in
+    let s = a ++ (own ++ r) in
     let b = length-bytesOf order 4 n in
     let room : at + 4 ≤ length s = rw (length-append, length-append) (omega arith) in
-    let part : bytesAt at 4 s ≡ bytesOf order 4 n = bytesAt-part at 4 s room ∙ rw (drop-at a (bytesOf order 4 n ++ r) at e) (take-at (bytesOf order 4 n) r 4 b) in
+    let part : bytesAt at 4 s ≡ own = bytesAt-part at 4 s room ∙ rw (drop-at a (own ++ r) at e) (take-at own r 4 b) in
     ap (numberOf order) part ∙ bytes-number order 4 n h

@@ -38,14 +38,16 @@ module _ (f : ℕ → List ℕ) (w : ℕ) (each : (i : ℕ) → length (f i) ≡
       ∙ omega (arith, length-joined n, each n, suc-mul n w)
 
   -- a turn of a loop that stores one piece after the other
-  pub run-turn : (l : List ℕ) (at : ℕ) (buf : List ℕ) (i : ℕ) → buf ≡ sets l at (joined (tabulate f i)) → sets buf (at + i * w) (f i) ≡ sets l at (joined (tabulate f (i + 1)))
+  pub run-turn : (l : List ℕ) (at : ℕ) (buf : List ℕ) (i : ℕ) → buf ≡ sets l at (joined (tabulate f i))
+      → sets buf (at + i * w) (f i) ≡ sets l at (joined (tabulate f (i + 1)))
   run-turn l at buf i e =
       rw (e, add-one)
       (sets-next (joined (tabulate f i)) (f i) l at (i * w) (length-joined i)
       ∙ ap (sets l at) (sym (ap joined (tabulate-more f i) ∙ joined-snoc (tabulate f i) (f i))))
 
 -- the same, byte by byte
-pub byte-turn : (f : ℕ → ℕ) (l : List ℕ) (at : ℕ) (buf : List ℕ) (i : ℕ) → buf ≡ sets l at (tabulate f i) → set buf (at + i) (f i) ≡ sets l at (tabulate f (i + 1))
+pub byte-turn : (f : ℕ → ℕ) (l : List ℕ) (at : ℕ) (buf : List ℕ) (i : ℕ) → buf ≡ sets l at (tabulate f i)
+    → set buf (at + i) (f i) ≡ sets l at (tabulate f (i + 1))
 byte-turn f l at buf i e =
     rw (e, add-one)
     (sets-next (tabulate f i) (f i ∷ []) l at i (length-tabulate f i) ∙ ap (sets l at) (sym (tabulate-more f i)))

@@ -1,5 +1,5 @@
 -- Laws of `tabulate`, and the turns of a loop that fills a list from the front.
-use Prim.Native.Nat.{ℕ, zero, suc, _+_, _-_, _≤_, _<_}
+use Prim.Native.Nat.{ℕ, zero, suc, _+_, _≤_, _<_}
 use mathlib.Core.Path.{_≡_, refl, ap, _∙_, sym}
 use mathlib.Core.List.{List, [], _∷_, _++_, append-nil}
 use native.Mathlib.Omega.{arith}
@@ -32,7 +32,8 @@ module _ {ℓ} {A : Type ℓ} where
   tabulate-turn f z d out i v h e ev = rw (e, ev) (tabulate-fill f z d i h)
 
   -- after the last turn
-  pub tabulate-done : (f : ℕ → A) (d : List A) (out : List A) (i : ℕ) → i ≤ length d → length d ≤ i → out ≡ tabulate f i ++ drop i d → out ≡ tabulate f (length d)
+  pub tabulate-done : (f : ℕ → A) (d : List A) (out : List A) (i : ℕ) → i ≤ length d → length d ≤ i → out ≡ tabulate f i ++ drop i d
+      → out ≡ tabulate f (length d)
   tabulate-done f d out i h g e =
       let same : i ≡ length d = omega arith in
       e ∙ rw (same, drop-length) (append-nil (tabulate f (length d)))

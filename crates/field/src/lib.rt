@@ -1,5 +1,6 @@
-// Numbers of one, two and four bytes in a file's byte order: readers and writers over a slice (source document 003 for the
-// widths). They are total: past the end a byte reads as 0, and a store there does nothing, so that no caller proves a length.
+// Numbers of one, two and four bytes in a file's byte order: readers and writers over a slice (source document 003 for
+// the widths). They are total: past the end a byte reads as 0, and a store there does nothing, so that no caller proves
+// a length.
 ghost use mathlib.Core.Path.{_≡_};
 ghost use Prim.Native.Nat.{_+_, _*_, _<_};
 ghost use lib.ListN.{length, getD, set};
@@ -7,7 +8,8 @@ ghost use lib.Seq.{sets};
 ghost use lib.IntN.{pos};
 ghost use mir.Syntax.{w16, w32};
 ghost use mir.Val.{toZ, ofZ};
-ghost use Rattle.field.specs.Numbers.{u16At, u32At, i16At, i32At, bytesOf, bytesAt, padded, u32sAt, i16sAt, u32sBytes, i16sBytes};
+ghost use Rattle.field.specs.Numbers.{u16At, u32At, i16At, i32At, bytesOf, bytesAt, padded};
+ghost use Rattle.field.specs.Numbers.{u32sAt, i16sAt, u32sBytes, i16sBytes};
 
 // The byte order of a file's numbers.
 pub enum Order {

@@ -1,5 +1,1 @@
-pub mod Accepted
 pub mod Answers
-pub mod Checking
-pub mod Starting
-pub mod Theorems

@@ -1,24 +1,24 @@
 -- Which bit patterns are of a positive number, and the time of a rank by such a duration: it is one rounding of the exact product, it is +0 for
 -- rank 0, and where it is not finite it is the infinity above zero. Assumes nothing.
 use mathlib.Core.Path.{_≡_, refl, sym, ap, _∙_, subst}
-use mathlib.Core.Bool.{Bool, true, false, not, cond, _&&_, true≢false}
+use mathlib.Core.Bool.{Bool, true, false, cond, _&&_, true≢false}
 use mathlib.Core.Logic.{_⊎_, inl, inr}
-use Prim.Native.Nat.{ℕ, zero, suc, _+_, _-_, _*_, _/_, _%_, _^_, _≤_, _<_}
+use Prim.Native.Nat.{ℕ, zero, suc, _+_, _*_, _/_, _%_, _^_, _≤_, _<_}
 use native.Mathlib.Nat.{mul-pos, one-mul, zero-mul, zero-lt-suc}
 use native.Mathlib.Omega.{arith}
 use lib.Dec.{T, leb, ltb, eqb}
 use lib.Pow.{pow-pos}
 use lib.IntN.{pos}
-use lib.Ieee.{Float, nan, inf, fin, binary32, odd, units, round, mul, lt, ofInt, ofFields, ofBits, isNan, nanBits, up, down}
+use lib.Ieee.{Float, nan, inf, fin, binary32, odd, units, round, mul, lt, ofInt, ofFields, ofBits, up, down}
 use lib.Ieee.Back.{round-whole}
-use lib.Ieee.Bits.{nanBits-is, is-true}
+use lib.Ieee.Bits.{is-true}
 use lib.Ieee.Exact.{odd-sign}
 use lib.Ieee.Fits.{round-is}
-use lib.Ieee.Positive.{num, den, den-pos, own-value, positive, positive-of-value, mul-at}
+use lib.Ieee.Positive.{num, den, den-pos, own-value, positive, positive-finite, positive-of-value, mul-at}
 use lib.Ieee.Scale.{finite, round-same}
 use borrow.Author.Tests.{leb-false, ltb-true, ltb-false, lt-leb, ne-eqb}
 use Rattle.slices.specs.declared.Time.the-variants.{Finite}
-use Rattle.slices.specs.Times.{product, answerOf, timeOf}
+use Rattle.slices.specs.Times.{product, timeBy, timeOf}
 
 -- ---- positive, by the fields of a pattern: its sign, the exponent's field x and the digits t
 odd-negative : (q k : ℕ) → positive (odd 24 true q k 149) ≡ false
@@ -80,14 +80,8 @@ positive-pattern b w = go (ltb 0 b) (ltb b 2139095040) refl refl
     go true false e f = sym (high (leb 2147483648 b) refl (ltb-false b 2139095040 f))
     go false q e f = sym (ap (λ (n : ℕ). positive (ofBits binary32 n)) (nothing (ltb-false 0 b e)))
 
-positive-no-nan : (x : Float) → positive x ≡ true → isNan x ≡ false
-unfolding isNan
-positive-no-nan nan e = sym e
-positive-no-nan (inf s) e = refl
-positive-no-nan (fin s m z) e = refl
-
-pub no-nan : (b : ℕ) → positive (ofBits binary32 b) ≡ true → T (not (nanBits binary32 b))
-no-nan b h = subst (λ (x : Bool). T (not x)) (sym (nanBits-is binary32 b ∙ positive-no-nan (ofBits binary32 b) h)) tt
+pub positive-is-finite : (x : Float) → positive x ≡ true → finite x ≡ true
+positive-is-finite x p = is-true _ (positive-finite x (subst T (sym p) tt))
 
 -- ---- the product
 -- "rounded once": of the exact product r * num d / den d, where num d / den d is the value of d
@@ -100,7 +94,9 @@ rounded-once zero (fin false m e) h p = ap (λ (x : ℕ). round binary32 false (
 rounded-once (suc r) d h p =
     let t : T (positive d) = subst T (sym p) tt in
     let v = round-whole binary32 false (suc r) (omega arith) in
-    mul-at binary32 (round binary32 false (suc r) 1) d (suc r) 1 (num d) (den d) (positive-of-value (round binary32 false (suc r) 1) (suc r) 1 v (zero-lt-suc r)) t (zero-lt-suc 0) (den-pos d) v (own-value d t)
+    let x = round binary32 false (suc r) 1 in
+    let u : T (positive x) = positive-of-value x (suc r) 1 v (zero-lt-suc r) in
+    mul-at binary32 x d (suc r) 1 (num d) (den d) u t (zero-lt-suc 0) (den-pos d) v (own-value d t)
     ∙ ap (λ (x : ℕ). round binary32 false (suc r * num d) x) (one-mul (den d))
 
 -- a rounded fraction is finite, or the infinity above zero
@@ -147,9 +143,9 @@ product-infinite r d h p e = go (product-reached r d h p)
 
 -- ---- the time
 pub time-rounded-once : (b r : ℕ) → r ≤ 65535 → positive (ofBits binary32 b) ≡ true
-    → timeOf b r ≡ answerOf (round binary32 false (r * num (ofBits binary32 b)) (den (ofBits binary32 b)))
+    → timeOf b r ≡ timeBy (round binary32 false (r * num (ofBits binary32 b)) (den (ofBits binary32 b)))
 unfolding timeOf
-time-rounded-once b r h p = ap answerOf (rounded-once r (ofBits binary32 b) h p)
+time-rounded-once b r h p = ap timeBy (rounded-once r (ofBits binary32 b) h p)
 
 -- rank 0 has the time +0
 pub time-of-first : (b : ℕ) → positive (ofBits binary32 b) ≡ true → timeOf b 0 ≡ Finite (fin false 0 (pos 0))
@@ -157,4 +153,4 @@ unfolding round
 time-of-first b p =
     let d = ofBits binary32 b in
     time-rounded-once b 0 (omega arith) p
-    ∙ ap answerOf (round-same binary32 false (0 * num d) (den d) 0 1 (den-pos d) (zero-lt-suc 0) (simp zero-mul))
+    ∙ ap timeBy (round-same binary32 false (0 * num d) (den d) 0 1 (den-pos d) (zero-lt-suc 0) (simp zero-mul))

@@ -11,10 +11,10 @@ use Rattle.slices.specs.declared.Time.the-variants.{Finite, Infinite}
 abbrev pub product : ℕ → Float → Float
 product rank d = mul binary32 (ofInt binary32 (pos rank)) d
 
--- a product as an answer: a time, or that it is infinite
-abbrev pub answerOf : Float → Time
-answerOf t = cond (finite t) (Finite t) Infinite
+-- the time that a product is, or that it is infinite
+abbrev pub timeBy : Float → Time
+timeBy t = cond (finite t) (Finite t) Infinite
 
 -- the time of a rank by the bit pattern of slice_duration
 unfoldable pub timeOf : ℕ → ℕ → Time
-timeOf duration rank = answerOf (product rank (ofBits binary32 duration))
+timeOf duration rank = timeBy (product rank (ofBits binary32 duration))

@@ -6,9 +6,9 @@ use native.Mathlib.Nat.{add-zero, mul-one}
 use native.Mathlib.Omega.{arith}
 use lib.ListN.{length, take, drop, take-append-drop}
 use Rattle.units.specs.Units.{turnedAt}
-use Rattle.units.specs.Runs.{Run, run, turnRuns, spanOf, turnRunsAt}
+use Rattle.units.specs.Runs.{Run, run, turnRuns, turnRunsAt}
 use Rattle.units.proofs.Units.{turned-own, turnedAt-bytes}
-use Rattle.units.proofs.Runs.{length-turnRunsAt, span-append, runs-split}
+use Rattle.units.proofs.Runs.{spanOf, length-turnRunsAt, span-append, runs-split}
 
 -- a chain of such steps: `goal` is what they come to in the end, and rs are the runs that are left, from index `at` of l
 pub record Chain (goal : List ℕ) (at : ℕ) (rs : List Run) (l : List ℕ) : Type 0 where
@@ -16,7 +16,8 @@ pub record Chain (goal : List ℕ) (at : ℕ) (rs : List Run) (l : List ℕ) : T
   pub room : at + spanOf rs ≤ length l
 
 -- a list of runs is turned round
-pub chain-runs : {goal : List ℕ} (at : ℕ) (rs qs : List Run) (l l′ : List ℕ) → Chain goal at (rs ++ qs) l → l′ ≡ turnRunsAt at rs l → Chain goal (at + spanOf rs) qs l′
+pub chain-runs : {goal : List ℕ} (at : ℕ) (rs qs : List Run) (l l′ : List ℕ) → Chain goal at (rs ++ qs) l → l′ ≡ turnRunsAt at rs l
+    → Chain goal (at + spanOf rs) qs l′
 chain-runs at rs qs l l′ c e =
     let h : at + spanOf rs ≤ length l = omega (arith, c .room, span-append rs qs) in
     record {
@@ -25,7 +26,8 @@ chain-runs at rs qs l l′ c e =
     }
 
 -- a single run is turned round
-pub chain-next : {goal : List ℕ} (at : ℕ) (r : Run) (rs : List Run) (l l′ : List ℕ) → Chain goal at (r ∷ rs) l → l′ ≡ turnedAt (r .width) at (r .count) l → Chain goal (at + r .count * r .width) rs l′
+pub chain-next : {goal : List ℕ} (at : ℕ) (r : Run) (rs : List Run) (l l′ : List ℕ) → Chain goal at (r ∷ rs) l
+    → l′ ≡ turnedAt (r .width) at (r .count) l → Chain goal (at + r .count * r .width) rs l′
 unfolding turnedAt turnRunsAt turnRuns spanOf
 chain-next at r rs l l′ c e =
     rw add-zero at (chain-runs at (r ∷ []) rs l l′ c (e ∙ ap (λ (x : List ℕ). take at l ++ x) (turned-own (r .width) (r .count) (drop at l))))

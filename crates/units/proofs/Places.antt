@@ -2,7 +2,7 @@
 -- instance.
 use Prim.Native.Nat.{ℕ, _+_, _-_, _*_, _/_, _≤_, _<_}
 use mathlib.Core.Path.{_≡_, refl, ap, _∙_}
-use mathlib.Core.Bool.{Bool, true, false, cond, _&&_, and-eq-true-iff}
+use mathlib.Core.Bool.{Bool, true, false, cond, _&&_, and-eq-true-iff, false≢true}
 use mathlib.Core.List.{List, [], _∷_, _++_, reverse}
 use native.Mathlib.Omega.{arith}
 use native.Mathlib.Nat.{add-mul, zero-add, one-mul, mul-le-mul-right}
@@ -11,9 +11,9 @@ use lib.Dec.{leb, eqb}
 use lib.ListN.{length, take, drop, length-drop}
 use lib.Seq.{length-take-le, drop-at, drop-drop}
 use Rattle.units.specs.Units.{turned}
-use Rattle.units.specs.Runs.{Run, run, turnRuns, spanOf}
+use Rattle.units.specs.Runs.{Run, run, turnRuns}
 use Rattle.units.proofs.Units.{length-turned, turned-one}
-use Rattle.units.proofs.Runs.{runs-field}
+use Rattle.units.proofs.Runs.{spanOf, runs-field}
 
 -- n units of w bytes stand from place p on, all in one run
 abbrev pub unitsAt : ℕ → ℕ → ℕ → List Run → Bool
@@ -79,6 +79,6 @@ module _ (w n p i : ℕ) (r : Run) (rs : List Run) (l : List ℕ) (b : i < n) (r
       first-turns w n p i r rs l (eqb-true (r .width) w (a .0)) (eqb-true (p / w * w) p (d .0)) (leb-true (p / w + n) (r .count) (d .1)) b room
 
 pub turns-at : (w n p i : ℕ) (rs : List Run) (l : List ℕ) → i < n → spanOf rs ≤ length l → unitsAt w n p rs ≡ true → Turns w (p + i * w) rs l
-turns-at w n p i [] l b room h = let z : _≡_ {A = ℕ} 0 1 = cc in absurd (omega arith)
+turns-at w n p i [] l b room h = absurd (false≢true h)
 turns-at w n p i (r ∷ rs) l b room h =
     either-run w n p i r rs l b room (turns-at w n (p - r .count * r .width) i rs (drop (r .count * r .width) l) b) (leb (r .count * r .width) p) refl h

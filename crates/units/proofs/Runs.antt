@@ -7,10 +7,16 @@ use native.Mathlib.Omega.{arith}
 use lib.ListN.{length, take, drop, length-append, length-take, length-drop, take-append-drop}
 use lib.Seq.{length-take-le, take-take, take-at, drop-at, drop-drop}
 use Rattle.units.specs.Units.{turned}
-use Rattle.units.specs.Runs.{Run, run, turnRuns, spanOf, turnRunsAt, headerRuns}
-use Rattle.units.proofs.Units.{drop-take, take-past, drop-past, length-turned, turned-twice, turned-within}
+use Rattle.number.proofs.Lists.{drop-take, drop-take-add}
+use Rattle.units.specs.Runs.{Run, run, turnRuns, turnRunsAt, headerRuns}
+use Rattle.units.proofs.Units.{take-past, drop-past, length-turned, turned-twice, turned-within}
 
 -- ---- Runs from the front
+
+-- how many bytes the runs span
+unfoldable pub spanOf : List Run → ℕ
+spanOf [] = 0
+spanOf (r ∷ rs) = r .count * r .width + spanOf rs
 
 pub length-turnRuns : (rs : List Run) (l : List ℕ) → length (turnRuns rs l) ≡ length l
 unfolding turnRuns
@@ -47,7 +53,7 @@ runs-append [] qs l = refl
 runs-append (r ∷ rs) qs l =
     let m : ℕ = r .count * r .width in
     let t : take m (take (m + spanOf rs) l) ≡ take m l = take-take m (m + spanOf rs) l (le-add-right m (spanOf rs)) in
-    rw (t, drop-take m (spanOf rs) l, ← drop-drop (spanOf rs) m l, append-assoc)
+    rw (t, drop-take-add m (spanOf rs) l, ← drop-drop (spanOf rs) m l, append-assoc)
     (ap (λ (x : List ℕ). turned (r .width) (r .count) (take m l) ++ x) (runs-append rs qs (drop m l)))
 
 -- the runs need only their own bytes
@@ -61,7 +67,9 @@ length-own-runs rs l h = length-turnRuns rs (take (spanOf rs) l) ∙ length-take
 
 -- the bytes past the runs stay
 pub runs-behind : (rs : List Run) (l : List ℕ) → spanOf rs ≤ length l → drop (spanOf rs) (turnRuns rs l) ≡ drop (spanOf rs) l
-runs-behind rs l h = ap (drop (spanOf rs)) (runs-own rs l) ∙ drop-at (turnRuns rs (take (spanOf rs) l)) (drop (spanOf rs) l) (spanOf rs) (length-own-runs rs l h)
+runs-behind rs l h =
+    let own = turnRuns rs (take (spanOf rs) l) in
+    ap (drop (spanOf rs)) (runs-own rs l) ∙ drop-at own (drop (spanOf rs) l) (spanOf rs) (length-own-runs rs l h)
 
 -- ---- What is read of the result
 
@@ -96,9 +104,7 @@ runs-middle before middle after l h =
 
 -- a part of a part
 take-inside : (a k m : ℕ) (l : List ℕ) → a + k ≤ m → take k (drop a (take m l)) ≡ take k (drop a l)
-take-inside a k m l h =
-    let e : m ≡ a + (m - a) = omega arith in
-    ap (λ (x : ℕ). take k (drop a (take x l))) e ∙ rw (drop-take a (m - a) l) (take-take k (m - a) (drop a l) (omega arith))
+take-inside a k m l h = rw (drop-take a m l) (take-take k (m - a) (drop a l) (omega arith))
 
 -- a field: m units of a run of n, from unit k of it on
 pub runs-field : (before after : List Run) (w n k m : ℕ) (l : List ℕ) → k + m ≤ n → spanOf before + n * w ≤ length l
@@ -109,7 +115,12 @@ runs-field before after w n k m l h g =
     let d : List ℕ = drop p l in
     let i : k * w + m * w ≤ n * w = rw (← add-mul k m w) (mul-le-mul-right w h) in
     let len : length (take (n * w) d) ≡ n * w = length-take-le (n * w) d (rw length-drop (omega arith)) in
-    rw (← drop-drop (k * w) p (turnRuns (before ++ (run w n ∷ after)) l), ← drop-drop (k * w) p l, ← take-inside (k * w) (m * w) (n * w) x, runs-part before after w n l g)
+    rw (
+      ← drop-drop (k * w) p (turnRuns (before ++ (run w n ∷ after)) l),
+      ← drop-drop (k * w) p l,
+      ← take-inside (k * w) (m * w) (n * w) x,
+      runs-part before after w n l g,
+    )
     (turned-within w k m n (take (n * w) d) h (omega (arith, add-mul k m w)) ∙ ap (turned w m) (take-inside (k * w) (m * w) (n * w) d i))
 
 -- ---- Runs in place
@@ -119,7 +130,8 @@ unfolding turnRunsAt
 length-turnRunsAt at rs l = simp (length-append, length-turnRuns, length-take, length-drop) (omega arith)
 
 -- a list of runs in place, then the others
-pub runs-split : (at : ℕ) (rs qs : List Run) (l : List ℕ) → at + spanOf rs ≤ length l → turnRunsAt at (rs ++ qs) l ≡ turnRunsAt (at + spanOf rs) qs (turnRunsAt at rs l)
+pub runs-split : (at : ℕ) (rs qs : List Run) (l : List ℕ) → at + spanOf rs ≤ length l
+    → turnRunsAt at (rs ++ qs) l ≡ turnRunsAt (at + spanOf rs) qs (turnRunsAt at rs l)
 unfolding turnRunsAt
 runs-split at rs qs l h =
     let s : ℕ = spanOf rs in

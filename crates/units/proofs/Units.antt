@@ -6,17 +6,12 @@ use native.Mathlib.Nat.{suc-mul, add-mul, add-comm, zero-add, add-zero, zero-mul
 use native.Mathlib.Numerals.{sub-one}
 use native.Mathlib.Omega.{arith}
 use lib.ListN.{length, take, drop, length-append, length-take, length-drop, length-reverse, take-append-drop}
-use lib.Seq.{length-take-le, take-nil, take-take, take-at, drop-at, drop-drop, slice-empty}
+use lib.Seq.{length-take-le, take-take, take-at, drop-at, drop-drop, slice-empty}
 use Rattle.bytes.specs.Bytes.{rev, slice}
+use Rattle.number.proofs.Lists.{drop-take-add}
 use Rattle.units.specs.Units.{turned, turnedAt}
 
 -- ---- Parts of a list
-
--- the k after the first m
-pub drop-take : (m k : ℕ) (l : List ℕ) → drop m (take (m + k) l) ≡ take k (drop m l)
-drop-take zero k l = rw zero-add
-drop-take (suc m) k [] = rw (suc-add, take-nil)
-drop-take (suc m) k (x ∷ l) = rw suc-add (drop-take m k l)
 
 -- where k bytes from index `at` were replaced by those of a: what ends there, and what follows
 module _ (at k : ℕ) (l a d : List ℕ) (room : at ≤ length l) (size : length a ≡ k) where
@@ -65,7 +60,7 @@ turned-parts w zero n l = rw (zero-add, zero-mul)
 turned-parts w (suc m) n l =
     let e : suc m * w ≡ w + m * w = omega (arith, suc-mul m w) in
     let t : take w (take (w + m * w) l) ≡ take w l = take-take w (w + m * w) l (le-add-right w (m * w)) in
-    rw (suc-add, e, t, drop-take w (m * w) l, ← drop-drop (m * w) w l, append-assoc)
+    rw (suc-add, e, t, drop-take-add w (m * w) l, ← drop-drop (m * w) w l, append-assoc)
     (ap (λ (r : List ℕ). reverse (take w l) ++ r) (turned-parts w m n (drop w l)))
 
 -- the units need only their own bytes
@@ -78,7 +73,8 @@ length-own : (w n : ℕ) (l : List ℕ) → n * w ≤ length l → length (turne
 length-own w n l h = length-turned w n (take (n * w) l) ∙ length-take-le (n * w) l h
 
 -- m of the n units, from unit k on
-pub turned-within : (w k m n : ℕ) (l : List ℕ) → k + m ≤ n → (k + m) * w ≤ length l → take (m * w) (drop (k * w) (turned w n l)) ≡ turned w m (take (m * w) (drop (k * w) l))
+pub turned-within : (w k m n : ℕ) (l : List ℕ) → k + m ≤ n → (k + m) * w ≤ length l
+    → take (m * w) (drop (k * w) (turned w n l)) ≡ turned w m (take (m * w) (drop (k * w) l))
 turned-within w k m n l h g =
     let s : n ≡ k + (m + (n - (k + m))) = omega arith in
     let f : List ℕ = turned w k (take (k * w) l) in
@@ -123,7 +119,8 @@ turned-split w at m n l h =
     (sym (rw (turned-own w m d, take-past at (m * w) l a r, drop-past at (m * w) l a r) (append-assoc (take at l) a (turned w n r))))
 
 -- m of n units are turned round, and the others are left: a turn of a loop
-pub turned-next : (w at m n : ℕ) (l l′ : List ℕ) → m ≤ n → at + n * w ≤ length l → l′ ≡ turnedAt w at m l → turnedAt w at n l ≡ turnedAt w (at + m * w) (n - m) l′
+pub turned-next : (w at m n : ℕ) (l l′ : List ℕ) → m ≤ n → at + n * w ≤ length l → l′ ≡ turnedAt w at m l
+    → turnedAt w at n l ≡ turnedAt w (at + m * w) (n - m) l′
 turned-next w at m n l l′ h k e =
     let s : n ≡ m + (n - m) = omega arith in
     let k′ : at + m * w ≤ length l = omega (arith, add-mul m (n - m) w, ap (λ (x : ℕ). x * w) s) in
@@ -134,7 +131,7 @@ turned-next w at m n l l′ h k e =
 -- what `bytes::reverse` leaves is one unit turned round
 pub turned-reverse : (w at : ℕ) (l : List ℕ) → take at l ++ (rev (slice at (at + w) l) ++ drop (at + w) l) ≡ turnedAt w at 1 l
 unfolding turnedAt turned rev slice
-turned-reverse w at l = rw (drop-take at w l, drop-drop w at l)
+turned-reverse w at l = rw (drop-take-add at w l, drop-drop w at l)
 
 -- the bytes of n units are those of one, and of the others
 pub bytes-left : (n w : ℕ) → 0 < n → n * w ≡ w + (n - 1) * w

@@ -1,6 +1,6 @@
 -- What a swap turns round, as one list over a whole stretch of a file: "Swapping turns round each 2- or 4-byte header field, unused numbers included,
 -- each extension's size and code, and each swap unit of the image. All else stays" (01-scope.md, "Voxels and byte order").
-use Prim.Native.Nat.{ℕ, _+_, _*_}
+use Prim.Native.Nat.{ℕ, _*_}
 use mathlib.Core.List.{List, [], _∷_, _++_}
 use lib.ListN.{take, drop}
 use Rattle.units.specs.Units.{turned}
@@ -19,11 +19,6 @@ turnRuns [] l = l
 turnRuns (r ∷ rs) l =
     turned (r .width) (r .count) (take (r .count * r .width) l)
     ++ turnRuns rs (drop (r .count * r .width) l)
-
--- how many bytes the runs span
-unfoldable pub spanOf : List Run → ℕ
-spanOf [] = 0
-spanOf (r ∷ rs) = r .count * r .width + spanOf rs
 
 -- the same, with the first run at index `at`
 unfoldable pub turnRunsAt : ℕ → List Run → List ℕ → List ℕ

@@ -1,5 +1,6 @@
-// Turning units round in place: units of any width, and the numbers of a header. This carries out "Swapping turns round each 2- or 4-byte header
-// field, unused numbers included, ... and each swap unit of the image. All else stays" (01-scope.md, "Voxels and byte order").
+// Turning units round in place: units of any width, and the numbers of a header. This carries out "Swapping turns round
+// each 2- or 4-byte header field, unused numbers included, ... and each swap unit of the image. All else stays"
+// (01-scope.md, "Voxels and byte order").
 ghost use mathlib.Core.Path.{_≡_};
 ghost use Prim.Native.Nat.{_+_, _*_, _≤_};
 ghost use lib.ListN.{length};

@@ -46,7 +46,9 @@ loop-less c = search needs
 loop-again : tie.Need-loop-again Inv-loop μ-loop
 loop-again c =
     let inv = c .before .before .loop .inv in
-    (omega arith, simp length-set (inv .1), tabulate-turn _ (pos 0) _ _ _ _ (omega arith) (inv .2) (toZ-ofZ w16 (c .read-i16 .result) (record { sfits = c .read-i16 .ok }) ∙ c .read-i16 .ensures))
+    let r = c .read-i16 in
+    let value = toZ-ofZ w16 (r .result) (record { sfits = r .ok }) ∙ r .ensures in
+    (omega arith, simp length-set (inv .1), tabulate-turn _ (pos 0) _ _ _ _ (omega arith) (inv .2) value)
 
 same-length : tie.Need-same-length Inv-loop μ-loop
 same-length c = search needs

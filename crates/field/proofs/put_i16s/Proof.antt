@@ -16,7 +16,10 @@ use Rattle.field.proofs.put_i16s.Statement.{statement}
 use Rattle.field.proofs.put_i16s.Tie as tie
 
 abbrev Inv-loop : tie.InvT-loop
-Inv-loop buf₀ at order n src i₀ buf i = (i ≤ n) × (length buf ≡ length buf₀) × (buf ≡ sets buf₀ at (joined (tabulate (λ k. bytesOf order 2 (ofZ w16 (getD src k (pos 0)))) i)))
+Inv-loop buf₀ at order n src i₀ buf i =
+    (i ≤ n)
+    × (length buf ≡ length buf₀)
+    × (buf ≡ sets buf₀ at (joined (tabulate (λ k. bytesOf order 2 (ofZ w16 (getD src k (pos 0)))) i)))
 
 abbrev μ-loop : tie.MeasureT-loop
 μ-loop buf₀ at order n src i₀ buf i = n - i
@@ -49,7 +52,12 @@ loop-again c =
     let q = p .before in
     let a = c .before .before .before .before .before .before .before .before .args in
     let inv = c .before .before .before .before .before .before .loop .inv in
-    (omega arith, p .put-i16 .kept .0 ∙ inv .1, rw (p .put-i16 .ensures, toZ-ofZ w16 (q .i16-of .result) (record { sfits = q .i16-of .ok }), q .i16-of .ensures) (run-turn (λ k. bytesOf (a .order) 2 (ofZ w16 (getD (now (a .src)) k (pos 0)))) 2 (λ i. refl) _ _ _ _ (inv .2)))
+    let value = toZ-ofZ w16 (q .i16-of .result) (record { sfits = q .i16-of .ok }) in (
+      omega arith,
+      p .put-i16 .kept .0 ∙ inv .1,
+      rw (p .put-i16 .ensures, value, q .i16-of .ensures)
+          (run-turn (λ k. bytesOf (a .order) 2 (ofZ w16 (getD (now (a .src)) k (pos 0)))) 2 (λ i. refl) _ _ _ _ (inv .2)),
+    )
 
 same-length : tie.Need-same-length Inv-loop μ-loop
 same-length c = search needs

@@ -75,7 +75,9 @@ returns c =
     let c3 = c4 .before .before .before .before in
     let c2 = c3 .before .before .before .before in
     let c1 = c2 .before .before .before .before in
-    rw (c4 .put-byte4 .ensures, c3 .put-byte3 .ensures, c2 .put-byte2 .ensures, c1 .put-byte .ensures, c1 .before .before .enum-told .given .1) (simp (one-on, two-on, three-on))
+    let little = c1 .before .before .enum-told .given .1 in
+    rw (c4 .put-byte4 .ensures, c3 .put-byte3 .ensures, c2 .put-byte2 .ensures, c1 .put-byte .ensures, little)
+    (simp (one-on, two-on, three-on))
 
 same-length-2 : tie.Need-same-length-2
 same-length-2 c = search needs
@@ -87,7 +89,9 @@ returns-2 c =
     let c3 = c4 .before .before .before .before in
     let c2 = c3 .before .before .before .before in
     let c1 = c2 .before .before .before .before in
-    rw (c4 .put-byte8 .ensures, c3 .put-byte7 .ensures, c2 .put-byte6 .ensures, c1 .put-byte5 .ensures, c1 .before .before .enum-told2 .given .1) (simp (one-on, two-on, three-on))
+    let big = c1 .before .before .enum-told2 .given .1 in
+    rw (c4 .put-byte8 .ensures, c3 .put-byte7 .ensures, c2 .put-byte6 .ensures, c1 .put-byte5 .ensures, big)
+    (simp (one-on, two-on, three-on))
 
 pub put-u32-spec : {M : Type 1} → statement M
 put-u32-spec =

@@ -12,7 +12,10 @@ use Rattle.field.proofs.put_u32s.Statement.{statement}
 use Rattle.field.proofs.put_u32s.Tie as tie
 
 abbrev Inv-loop : tie.InvT-loop
-Inv-loop buf₀ at order n src i₀ buf i = (i ≤ n) × (length buf ≡ length buf₀) × (buf ≡ sets buf₀ at (joined (tabulate (λ k. bytesOf order 4 (getD src k 0)) i)))
+Inv-loop buf₀ at order n src i₀ buf i =
+    (i ≤ n)
+    × (length buf ≡ length buf₀)
+    × (buf ≡ sets buf₀ at (joined (tabulate (λ k. bytesOf order 4 (getD src k 0)) i)))
 
 abbrev μ-loop : tie.MeasureT-loop
 μ-loop buf₀ at order n src i₀ buf i = n - i
@@ -44,8 +47,12 @@ loop-again c =
     let p = c .before .before in
     let q = p .before in
     let a = c .before .before .before .before .before .before .before .before .before .args in
-    let inv = c .before .before .before .before .before .before .loop .inv in
-    (omega arith, p .put-u32 .kept .0 ∙ inv .1, rw (p .put-u32 .ensures, q .u32-of .ensures) (run-turn (λ k. bytesOf (a .order) 4 (getD (now (a .src)) k 0)) 4 (λ i. refl) _ _ _ _ (inv .2)))
+    let inv = c .before .before .before .before .before .before .loop .inv in (
+      omega arith,
+      p .put-u32 .kept .0 ∙ inv .1,
+      rw (p .put-u32 .ensures, q .u32-of .ensures)
+          (run-turn (λ k. bytesOf (a .order) 4 (getD (now (a .src)) k 0)) 4 (λ i. refl) _ _ _ _ (inv .2)),
+    )
 
 same-length : tie.Need-same-length Inv-loop μ-loop
 same-length c = search needs

@@ -18,10 +18,9 @@ order-in-requires c κs = search needs
 
 rank-of-requires : tie.Need-rank-of-requires
 rank-of-requires c κs =
-    let a = c .before .args in (
-      subst (λ (o : ℕ). o < countOf (a .start) (a .end)) (sym (c .order-in .ensures)) (order-below (a .code) (a .start) (a .end) (a .s) (search needs) (search needs)),
-      search needs,
-    )
+    let a = c .before .args in
+    let below = order-below (a .code) (a .start) (a .end) (a .s) (search needs) (search needs) in
+    (subst (λ (o : ℕ). o < countOf (a .start) (a .end)) (sym (c .order-in .ensures)) below, search needs)
 
 returns : tie.Need-returns
 returns c =

@@ -5,7 +5,8 @@ use native.Mathlib.Omega.{arith}
 use lib.Ieee.{binary32, lt, ofBits, nanBits}
 use lib.Ieee.Scale.{finite}
 use Rattle.slices.specs.Times.{product, timeOf}
-use Rattle.slices.proofs.TimeLaws.{no-nan, product-below}
+use Rattle.number.proofs.Floats.{no-nan}
+use Rattle.slices.proofs.TimeLaws.{positive-is-finite, product-below}
 use Rattle.slices.proofs.time_of.Statement.{statement}
 use Rattle.slices.proofs.time_of.Tie as tie
 
@@ -13,7 +14,9 @@ int-to-float-t : tie.Need-int-to-float-t
 int-to-float-t c = search needs
 
 float-from-bits-t : tie.Need-float-from-bits-t
-float-from-bits-t c = no-nan (c .before .args .duration) (c .before .pre)
+float-from-bits-t c =
+    let d = c .before .args .duration in
+    no-nan d (positive-is-finite (ofBits binary32 d) (c .before .pre))
 
 float-from-bits-if1 : tie.Need-float-from-bits-if1
 unfolding nanBits
