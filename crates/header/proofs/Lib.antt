@@ -1,3 +1,4 @@
 pub mod Front
 pub mod Groups
 pub mod Agree
+pub mod Distinct

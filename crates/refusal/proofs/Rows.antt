@@ -5,6 +5,7 @@ use mathlib.Core.Path.{_≡_, refl, sym}
 use mathlib.Core.Bool.{Bool, true, false, cond, _&&_, and-eq-true-iff}
 use mathlib.Core.List.{List, [], _∷_, _++_}
 use native.Mathlib.Omega.{arith}
+use borrow.Author.Tests.{leb-true, le-leb}
 use lib.Dec.{leb}
 use Rattle.refusal.specs.Table.{Row, refusal, verdict, decided, then}
 use Rattle.refusal.specs.declared.Refusal.{Refusal}
@@ -74,6 +75,16 @@ clear-split (r ∷ rs) (one e c) = let p = clear-split rs c in (one e (p .0), p 
 -- a number from lo to hi
 abbrev pub between : ℕ → ℕ → ℕ → Bool
 between lo hi n = leb lo n && leb n hi
+
+pub between-wider : (a b lo hi n : ℕ) → (leb lo a && leb b hi) ≡ true → between a b n ≡ true → between lo hi n ≡ true
+between-wider a b lo hi n w e =
+    let p = and-eq-true-iff (leb lo a) (leb b hi) .0 w in
+    let q = and-eq-true-iff (leb a n) (leb n b) .0 e in
+    let l = leb-true lo a (p .0) in
+    let h = leb-true b hi (p .1) in
+    let m = leb-true a n (q .0) in
+    let k = leb-true n b (q .1) in
+    and-eq-true-iff (leb lo n) (leb n hi) .1 (le-leb lo n (omega arith), le-leb n hi (omega arith))
 
 -- whether every row of a table has a number of a kind
 abbrev pub numbers : (ℕ → Bool) → List Row → Bool

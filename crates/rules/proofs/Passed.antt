@@ -1,16 +1,21 @@
 -- What an answer of rules 5 to 10 tells: the table's verdict behind it, and of fields that pass, how large the image's numbers are.
 use Prim.Native.Nat.{ℕ, _≤_}
 use mathlib.Core.Path.{_≡_, refl, sym}
-use mathlib.Core.Bool.{Bool, true, false, _||_, true≢false}
+use mathlib.Core.Bool.{Bool, true, false, not, _||_, true≢false, false≢true}
 use native.Mathlib.Omega.{arith}
-use borrow.Author.Tests.{ltb-false}
-use lib.Dec.{ltb}
+use borrow.Author.Tests.{ltb-false, le-ltb, eqb-true, not-false}
+use lib.Dec.{ltb, eqb}
 use Rattle.refusal.specs.declared.Refusal.{Refusal}
 use Rattle.refusal.specs.declared.Verdict.{Verdict}
 use Rattle.refusal.specs.declared.Verdict.the-variants.{Accepted, Refused}
 use Rattle.refusal.specs.Table.{verdict, decided}
 use Rattle.refusal.proofs.Rows.{Clear, none, one, accepted-clear, decided-accepted, decided-refused}
-use Rattle.offset.specs.Offset.{wholeOf, offsetLimit}
+use Rattle.number.specs.Natural.{naturalOf}
+use Rattle.datatype.specs.declared.Format.{Format}
+use Rattle.datatype.specs.declared.Datatype.{Datatype}
+use Rattle.datatype.specs.declared.Datatype.the-variants.{Known, Unknown}
+use Rattle.datatype.specs.Datatypes.{datatypeOf, isNumber}
+use Rattle.offset.specs.Offset.{isWhole, wholeOf, offsetLimit}
 use Rattle.grid.specs.Axes.{imageLimit}
 use Rattle.header.specs.declared.Header.{Header}
 use Rattle.header.specs.declared.Kind.{Kind}
@@ -18,7 +23,7 @@ use Rattle.header.specs.declared.Kind.the-variants.{Single, Pair}
 use Rattle.rules.specs.declared.Shape.{Shape}
 use Rattle.rules.specs.declared.Image.{Image}
 use Rattle.rules.specs.declared.Judged.the-variants.{Passed, Failed}
-use Rattle.rules.specs.Rules.{fieldRows, offsetOutside, bytesOfImage, imageOf, judgedOf, shapeOfRecord, recordRows, recordJudged}
+use Rattle.rules.specs.Rules.{firstBad, isKnown, statesBits, fieldRows, offsetOutside, bytesOfImage, imageOf, judgedOf, shapeOfRecord, recordRows, recordJudged}
 
 -- fields that pass have not failed
 pub failed-never {ℓ} : {A : Type ℓ} {r : Refusal} {i : Image} → Failed r ≡ Passed i → A
@@ -38,7 +43,41 @@ inside-limit : (kind : Kind) (n len : ℕ) → offsetOutside kind n len ≡ fals
 inside-limit Single n len e = ltb-false offsetLimit n (neither (ltb n 352) (ltb offsetLimit n) e .1)
 inside-limit Pair n len e = ltb-false offsetLimit n (neither (ltb offsetLimit n) (ltb offsetLimit len) e .0)
 
+-- what fields that rules 5 to 10 pass are like, rule by rule
+pub record Fields (f : Shape) (len : ℕ) : Type 0 where
+  pub axes : firstBad f ≡ 0  -- 5
+  pub format : Format  -- 6
+  pub known : datatypeOf (f .datatype) ≡ Known format
+  pub bits : isNumber (f .bitpix) (naturalOf (format .bits)) ≡ true  -- 7
+  pub whole : isWhole (f .«vox_offset») ≡ true  -- 8
+  pub inside : offsetOutside (f .kind) (wholeOf (f .«vox_offset»)) len ≡ false  -- 9
+  pub small : bytesOfImage f ≤ imageLimit  -- 10
+
 module _ (f : Shape) (len : ℕ) where
+  fields-by : (d : Datatype) → datatypeOf (f .datatype) ≡ d → isKnown d ≡ true → statesBits d (f .bitpix) ≡ true → firstBad f ≡ 0
+      → isWhole (f .«vox_offset») ≡ true → offsetOutside (f .kind) (wholeOf (f .«vox_offset»)) len ≡ false → bytesOfImage f ≤ imageLimit
+      → Fields f len
+  fields-by (Known t) e k b axes whole inside small =
+      record { axes = axes; format = t; known = e; bits = b; whole = whole; inside = inside; small = small }
+  fields-by Unknown e k b axes whole inside small = absurd (false≢true k)
+
+  pub clear-fields : Clear (fieldRows f len) → Fields f len
+  clear-fields (one r5 (one r6 (one r7 (one r8 (one r9 (one r10 none)))))) =
+      fields-by (datatypeOf (f .datatype)) refl (not-false _ r6) (not-false _ r7) (eqb-true (firstBad f) 0 (not-false _ r5)) (not-false _ r8) r9
+      (ltb-false imageLimit (bytesOfImage f) r10)
+
+  pub fields-clear : Fields f len → Clear (fieldRows f len)
+  fields-clear t =
+      let e5 : not (eqb (firstBad f) 0) ≡ false = rw (t .axes) in
+      let e6 : not (isKnown (datatypeOf (f .datatype))) ≡ false = rw (t .known) in
+      let e7 : not (statesBits (datatypeOf (f .datatype)) (f .bitpix)) ≡ false = rw (t .known, t .bits) in
+      let e8 : not (isWhole (f .«vox_offset»)) ≡ false = rw (t .whole) in
+      let e10 : ltb imageLimit (bytesOfImage f) ≡ false = le-ltb imageLimit (bytesOfImage f) (t .small) in
+      one e5 (one e6 (one e7 (one e8 (one (t .inside) (one e10 none)))))
+
+  pub fields-offset : Fields f len → imageOf f .offset ≤ offsetLimit
+  fields-offset t = inside-limit (f .kind) (wholeOf (f .«vox_offset»)) len (t .inside)
+
   pub judged-passed-is : (i : Image) → judgedOf f len ≡ Passed i → (verdict (fieldRows f len) ≡ Accepted) × (imageOf f ≡ i)
   unfolding judgedOf
   judged-passed-is i e = passed-by (verdict (fieldRows f len)) (imageOf f) i e
@@ -47,14 +86,11 @@ module _ (f : Shape) (len : ℕ) where
   unfolding judgedOf
   judged-failed-is r e = failed-by (verdict (fieldRows f len)) (imageOf f) r e
 
-  pub clear-bounds : Clear (fieldRows f len) → (imageOf f .offset ≤ offsetLimit) × (imageOf f .bytes ≤ imageLimit)
-  clear-bounds (one five (one six (one seven (one eight (one nine (one ten none)))))) =
-      (inside-limit (f .kind) (wholeOf (f .«vox_offset»)) len nine, ltb-false imageLimit (bytesOfImage f) ten)
-
   pub passed-bounds : (i : Image) → judgedOf f len ≡ Passed i → (i .offset ≤ offsetLimit) × (i .bytes ≤ imageLimit)
   passed-bounds i e =
       let p = judged-passed-is i e in
-      rw (← p .1) (clear-bounds (accepted-clear (fieldRows f len) (p .0)))
+      let t = clear-fields (accepted-clear (fieldRows f len) (p .0)) in
+      rw (← p .1) (fields-offset t, t .small)
 
 -- the same of a record
 module _ (h : Header) where
