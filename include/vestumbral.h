@@ -15,6 +15,10 @@
  *     NULL with length 0 is an empty buffer.
  *   - Where a call writes (swap, append, replace, remove), the buffers it is given do not overlap: not `file` and `image`, not
  *     `buffer` and `payload`.
+ *   - vestumbral_slice_at and vestumbral_position_of compute in binary32 and are called in the default floating-point state: round
+ *     to nearest, no exception trapped, neither flush-to-zero nor denormals-are-zero (a program linked with -ffast-math starts with
+ *     both). In another state a time or a position may be another number, and so may what hangs on it: a slice's state and refusal
+ *     23. Read, extension_at, voxel, swap and the edits do not depend on that state.
  *
  * The refusals. They are tried in the order of their numbers, but 24 first. At each extension 15 is tried, then 13, then 14.
  *

@@ -1,0 +1,197 @@
+/*
+ * The calls in floating-point states that are not the default: each rounding mode, with flush-to-zero and denormals-are-zero, and
+ * with every exception trapped. There read, extension_at, voxel, swap and the edits answer as in the default state, leave the same
+ * bytes in every lent buffer, and do not touch the state: their only float is the vox_offset of an edit, a multiple of 16 up to
+ * 2^27, which no state rounds. Slice times and positions are computed in the state, so the header asks for the default; the lines
+ * that are printed show what another makes of one of each.
+ */
+#include "../nifti.h"
+#include "vestumbral.h"
+
+#include <fenv.h>
+#include <pmmintrin.h>
+#include <stdio.h>
+#include <stdlib.h>
+#include <string.h>
+
+/* The default state is the first of both. */
+static const struct { int mode; const char *name; } roundings[] = {
+    {FE_TONEAREST, "to nearest"}, {FE_UPWARD, "upward"}, {FE_DOWNWARD, "downward"}, {FE_TOWARDZERO, "toward zero"}};
+static const struct { unsigned bits; const char *name; } controls[] = {
+    {_MM_MASK_MASK, "nothing else"},
+    {_MM_MASK_MASK | _MM_FLUSH_ZERO_ON, "flush-to-zero"},
+    {_MM_MASK_MASK | _MM_DENORMALS_ZERO_ON, "denormals-are-zero"},
+    {_MM_MASK_MASK | _MM_FLUSH_ZERO_ON | _MM_DENORMALS_ZERO_ON, "flush-to-zero and denormals-are-zero"},
+    {0, "every exception trapped"}};
+enum { ROUNDINGS = sizeof roundings / sizeof *roundings, CONTROLS = sizeof controls / sizeof *controls };
+
+static int rounding, control;
+static unsigned told, failed;
+
+static void enter(int next_rounding, int next_control)
+{
+    rounding = next_rounding;
+    control = next_control;
+    _mm_setcsr(controls[control].bits);
+    fesetround(roundings[rounding].mode);
+}
+
+static void fail(const char *what)
+{
+    printf("environment: rounding %s, %s: %s\n", roundings[rounding].name, controls[control].name, what);
+    failed++;
+}
+
+/* In the default state what is told is kept; in another it is compared with what was kept. */
+static uint8_t kept[1 << 24];
+static size_t used;
+
+static void tell(const char *what, const void *bytes, size_t length)
+{
+    if (length > sizeof kept - used) {
+        puts("environment: too much is told");
+        exit(2);
+    }
+    if (rounding == 0 && control == 0)
+        memcpy(kept + used, bytes, length);
+    else if (memcmp(kept + used, bytes, length) != 0)
+        fail(what);
+    used += length;
+    told++;
+}
+
+enum { PAYLOAD = 100000, SMALL = 512, VOXELS = 24 };
+static uint8_t buffer[SMALL + 2 * PAYLOAD], payload[PAYLOAD], image[VOXELS];
+
+/* Answers by value have no padding, so their bytes can be told. */
+_Static_assert(sizeof(vestumbral_reply) == 24 && sizeof(vestumbral_file) == 64 && sizeof(vestumbral_extension) == 32, "padding");
+
+static void look(size_t length)
+{
+    vestumbral_file file = vestumbral_read(buffer, length);
+    tell("read", &file, sizeof file);
+    for (uint64_t i = 0; i < 3; i++) {
+        vestumbral_extension extension = vestumbral_extension_at(buffer, length, i);
+        tell("extension_at", &extension, sizeof extension);
+    }
+    for (uint64_t i = 0; i < 4; i++)
+        for (uint64_t j = 0; j < 2; j++) {
+            vestumbral_reply voxel = vestumbral_voxel(buffer, length, image, sizeof image, i, j, 0, 0, 0, 0, 0);
+            tell("voxel", &voxel, sizeof voxel);
+        }
+}
+
+/* What a call that writes answered, and what it left behind; then what the file is, `length` long. */
+static void wrote(const char *call, vestumbral_reply reply, size_t lent, size_t length)
+{
+    tell(call, &reply, sizeof reply);
+    tell(call, buffer, lent);
+    tell(call, image, sizeof image);
+    look(length);
+}
+
+/* A file of 3 x 2 binary32 voxels, its floats ones that such a state changes in arithmetic: subnormals and a signalling NaN. */
+static const uint32_t floats[6] = {0x00000001, 0x807fffff, 0x7f800001, 0x00000c00, 0x3eaaaaab, 0xff800000};
+
+static size_t start(int pair, uint32_t offset)
+{
+    memset(buffer, 0xa5, sizeof buffer);
+    memset(image, 0xa5, sizeof image);
+    header(buffer, pair, (const int[]){2, 3, 2}, 16, 32, offset);
+    put32(buffer + 132, floats[3]); /* slice_duration */
+    for (int i = 0; i < 6; i++) {
+        put32(buffer + 280 + 4 * i, floats[i]); /* srow_x and half of srow_y */
+        put32((pair ? image : buffer + 352) + 4 * i, floats[i]);
+    }
+    if (pair)
+        return 348;
+    put32(buffer + 348, 0);
+    return 352 + VOXELS;
+}
+
+/* Both kinds in both orders, with a first extension of each length: that many bytes more or less before the image. */
+static void edits(void)
+{
+    static const size_t lengths[] = {0, 5, 8, 9, 24, 1000, PAYLOAD};
+    for (int kind = 0; kind < 4; kind++)
+        for (size_t i = 0; i < sizeof lengths / sizeof *lengths; i++) {
+            size_t length = start(kind & 1, kind & 1 ? 0 : 0x43b00000), lent = length + 2 * lengths[i] + 64;
+            if (kind & 2)
+                wrote("swap", vestumbral_swap(buffer, length, image, sizeof image), lent, length);
+            vestumbral_reply reply = vestumbral_append(buffer, lent, length, 6, payload, lengths[i]);
+            wrote("append", reply, lent, reply.length);
+            reply = vestumbral_append(buffer, lent, reply.length, 4, payload, 3);
+            wrote("append", reply, lent, reply.length);
+            reply = vestumbral_replace(buffer, lent, reply.length, 1, 8, payload, lengths[i]);
+            wrote("replace", reply, lent, reply.length);
+            wrote("swap", vestumbral_swap(buffer, reply.length, image, sizeof image), lent, reply.length);
+            reply = vestumbral_remove(buffer, lent, reply.length, 0);
+            wrote("remove", reply, lent, reply.length);
+            reply = vestumbral_remove(buffer, lent, reply.length, 0);
+            wrote("remove", reply, lent, reply.length);
+            if (reply.refusal != 0)
+                fail("the last removal is refused");
+        }
+}
+
+/* vox_offset by its bits, on both sides of the rules 8 and 9: a subnormal is a fraction, though some states take it for zero. */
+static void offsets(void)
+{
+    static const uint32_t bits[] = {0x00000000, 0x80000000, 0x00000001, 0x80000001, 0x007fffff, 0x43b00000, 0x43b04000, 0x43af8000,
+                                    0x43b80000, 0x4b800001, 0x4d000000, 0x4d000001, 0x7f800000, 0x7f800001, 0x7fc00000, 0xff800000};
+    for (int pair = 0; pair < 2; pair++)
+        for (size_t i = 0; i < sizeof bits / sizeof *bits; i++) {
+            size_t length = start(pair, bits[i]);
+            look(length);
+            wrote("append", vestumbral_append(buffer, SMALL, length, 6, payload, 5), SMALL, length);
+        }
+}
+
+static void all(void)
+{
+    used = told = 0;
+    unsigned before = _mm_getcsr();
+    edits();
+    offsets();
+    tell("payload", payload, sizeof payload);
+    if (_mm_getcsr() != before)
+        fail("the state itself changed");
+}
+
+/* Slices of which each takes 0x00000c00, a subnormal, and a position of which the exact value is not a binary32. */
+static void show(int next_rounding, int next_control)
+{
+    header(buffer, 1, (const int[]){3, 4, 4, 4}, 4, 16, 0);
+    buffer[39] = 3 << 4; /* dim_info */
+    put16(buffer + 120, 3); /* slice_end */
+    buffer[122] = 1; /* slice_code */
+    put32(buffer + 132, 0x00000c00); /* slice_duration */
+    put16(buffer + 254, 1); /* sform_code */
+    put32(buffer + 280, 0x3eaaaaab); /* srow_x[0], a third */
+    enter(next_rounding, next_control);
+    vestumbral_slice slice = vestumbral_slice_at(buffer, 348, 1);
+    vestumbral_position position = vestumbral_position_of(buffer, 348, 3, 0, 0);
+    enter(0, 0);
+    printf("environment: rounding %s, %s: slice state %d, time %08x; position %08x\n", roundings[next_rounding].name,
+           controls[next_control].name, (int)slice.state, float_bits(slice.seconds), float_bits(position.x));
+}
+
+int main(void)
+{
+    unsigned started = _mm_getcsr();
+    for (size_t i = 0; i < sizeof payload; i++)
+        payload[i] = (uint8_t)(i * 7 + 1);
+    for (int r = 0; r < ROUNDINGS; r++)
+        for (int c = 0; c < CONTROLS; c++) {
+            enter(r, c);
+            all();
+        }
+    enter(0, 0);
+    show(0, 0);
+    show(1, 0);
+    show(0, 1);
+    show(0, 2);
+    printf("environment: started %s flush-to-zero; %d states, %u answers and buffers in each, %u different\n",
+           started & _MM_FLUSH_ZERO_ON ? "with" : "without", ROUNDINGS * CONTROLS, told, failed);
+    return failed != 0;
+}
