@@ -1,5 +1,5 @@
-// Lists the NIfTI-1 file that is on standard input (01-scope.md, "Numbers on each side"). What a file is, the reader says; here
-// it is only printed, which is tested and not proved.
+// Lists the NIfTI-1 file that is on standard input (01-scope.md, "Numbers on each side"). What a file is, the reader
+// says; here it is only printed, which is tested and not proved.
 use extension::LIMIT;
 use extension::Span;
 use field::Order;
@@ -52,7 +52,7 @@ fn put_axes(dim: &[i16], n: usize) {
     let mut i = 0;
     while i < n {
         i += 1;
-        put_number(grid::extent_of(dim, i));
+        put_number(grid::axis_length(dim, i));
     }
 }
 

@@ -57,7 +57,7 @@ number-is : (z : ℤ) (n : ℕ) → isNumber z n ≡ true → z ≡ pos n
 number-is (pos m) n e = ap pos (eqb-true m n e)
 number-is (negsuc m) n e = absurd (false≢true e)
 
-same-is : (l m : List ℕ) → sameBytes l m ≡ true → l ≡ m
+pub same-is : (l m : List ℕ) → sameBytes l m ≡ true → l ≡ m
 same-is [] [] e = refl
 same-is [] (b ∷ m) e = absurd (false≢true e)
 same-is (a ∷ l) [] e = absurd (false≢true e)

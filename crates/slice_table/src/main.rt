@@ -1,6 +1,6 @@
-// Prints the answers of document 004's setting, seven slices of which 1 to 5 were acquired, by all six slice codes; the ranks of an even
-// number of slices, which no document has; and positions, of which the first shows the order of the roundings. The files are pairs' header
-// files, made here. What is to be printed stands in the file stdout.
+// Prints the answers of document 004's setting, seven slices of which 1 to 5 were acquired, by all six slice codes; the
+// ranks of an even number of slices, which no document has; and positions, of which the first shows the order of the
+// roundings. The files are pairs' header files, made here. What is to be printed stands in the file stdout.
 ghost use mathlib.Core.Path.{_≡_};
 ghost use mathlib.Core.Bool.{true};
 ghost use Prim.Native.Nat.{_<_};

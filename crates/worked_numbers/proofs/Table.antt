@@ -1,101 +1,115 @@
 -- The rows marked P of 01-scope.md, "Numbers on each side", as a single table with a single statement: each left side is computed
--- by the definitions that the calls' promises cite, each right side is the paper's. A row is computed by itself, since the checker
+-- by the definitions that the calls' promises cite, each right side is the paper's. The rows are computed in groups, since the checker
 -- bounds what one declaration may compute; the table is all of them.
 use mathlib.Core.Path.{_≡_, refl}
-use mathlib.Core.List.{[], _∷_, reverse}
+use mathlib.Core.List.{[], _∷_, _++_, reverse}
 use lib.Ieee.{lt, mul, ofBits, toBits, ofInt}
 use lib.ListN.{take, drop}
 use Rattle.field.specs.Numbers.{padded, bytesOf, u16At, u32At}
 use Rattle.refusal.specs.Table.{verdict}
 use Rattle.datatype.specs.Datatypes.{datatypeOf}
-use Rattle.offset.specs.Offset.{isWhole, wholeOf, offsetOf, offsetBits}
-use Rattle.grid.specs.Grid.{voxels, within, rank}
+use Rattle.offset.specs.Offset.{isWhole, wholeOf, offsetBits}
+use Rattle.grid.specs.Grid.{voxels, within, voxelNumber}
 use Rattle.grid.specs.Axes.{firstBelow, axes, imageBytes, sevenAxes}
 use Rattle.slices.specs.Ranks.{orderIn, altRank, alt2Rank, rankOf}
 use Rattle.extension.specs.Walk.{sizeRule, found, walk, extensionsIn}
 use Rattle.extension.specs.Pieces.{pieces}
 use Rattle.header.specs.Fields.{headerOf}
-use Rattle.reader.specs.File.{holdsIn, orderOf, hasMagic, kindOf, shapeIn, hasNone, hasExtensions, judgement}
-use Rattle.reader.specs.Reading.{readingOf}
+use Rattle.layout.specs.File.{holdsIn, orderOf, hasMagic, kindOf, shapeIn, hasNone, hasExtensions, endOf}
+use Rattle.reader.specs.Reading.{judgement, readingOf}
 use Rattle.timing.specs.Slices.{isStated, firstOf, sliceIn, sliceOf}
 use Rattle.voxel.specs.Voxel.{locatedIn, locatedOf}
 use Rattle.buffer.specs.Put.{put}
 use Rattle.buffer.specs.Settled.{settled}
-use Rattle.edit_plan.specs.Fresh.{sizeFor, stored, endOf, extensionList, tailOf, exchange, editedList, freshFile}
+use Rattle.edit_plan.specs.Fresh.{sizeFor, stored, extensionList, tailOf, exchange, editedList, freshFile}
 use Rattle.edit_plan.specs.Refusals.{changeVerdict}
-use Rattle.edit.specs.Outcome.{outcomeOf, answerOf}
-use Rattle.worked_numbers.specs.Worked.{zeros, fileWith, fileA, reading, at, ofOffset, ofEdited, note, appended, ranks, slicesFile, ofSlice}
+use Rattle.edit.specs.Outcome.{outcomeOf, editAnswer}
+use Rattle.worked_numbers.specs.Worked.{zeros, fileWith, pairWith, fileA, reading, offsetRead, at, ofEdited, note, appended, slicesBy}
 
-empty-file : reading [] ≡ 1 ∷ 0 ∷ []
+-- the empty file; 348 zero bytes; A; A cut to 363
+files :
+    reading []
+    ∷ reading (zeros 348)
+    ∷ reading fileA
+    ∷ reading (take 363 fileA)
+    ∷ []
+    ≡ (1 ∷ 0 ∷ [])
+    ∷ (2 ∷ 40 ∷ [])
+    ∷ (0 ∷ [])
+    ∷ (11 ∷ 108 ∷ [])
+    ∷ []
 unfolding readingOf judgement verdict holdsIn u16At u32At orderOf hasMagic kindOf shapeIn hasNone hasExtensions firstBelow datatypeOf isWhole wholeOf ofBits lt imageBytes voxels axes
-empty-file = refl
+files = refl
 
-zero-bytes : reading (zeros 348) ≡ 2 ∷ 40 ∷ []
+-- in A voxel (2,1), and (3,0)
+in-a :
+    at fileA 2 1
+    ∷ at fileA 3 0
+    ∷ []
+    ≡ (0 ∷ 362 ∷ 2 ∷ [])
+    ∷ (17 ∷ 0 ∷ [])
+    ∷ []
+unfolding readingOf judgement verdict holdsIn u16At u32At orderOf hasMagic kindOf shapeIn hasNone hasExtensions firstBelow datatypeOf isWhole wholeOf ofBits lt imageBytes voxels axes sevenAxes within voxelNumber locatedIn locatedOf headerOf
+in-a = refl
+
+-- offset bits 43B00000, 43B04000 and 43AF8000 in a single file, 4D000000 in a pair, 4D000001 in both
+offsets :
+    offsetRead fileA
+    ∷ offsetRead (fileWith (0 ∷ 0x40 ∷ 0xB0 ∷ 0x43 ∷ []))
+    ∷ offsetRead (fileWith (0 ∷ 0x80 ∷ 0xAF ∷ 0x43 ∷ []))
+    ∷ offsetRead (pairWith (0 ∷ 0 ∷ 0 ∷ 0x4D ∷ []))
+    ∷ offsetRead (fileWith (1 ∷ 0 ∷ 0 ∷ 0x4D ∷ []))
+    ∷ offsetRead (pairWith (1 ∷ 0 ∷ 0 ∷ 0x4D ∷ []))
+    ∷ []
+    ≡ (0 ∷ 352 ∷ [])
+    ∷ (8 ∷ 108 ∷ [])
+    ∷ (9 ∷ 108 ∷ [])
+    ∷ (0 ∷ 134217728 ∷ [])
+    ∷ (9 ∷ 108 ∷ [])
+    ∷ (9 ∷ 108 ∷ [])
+    ∷ []
 unfolding readingOf judgement verdict holdsIn u16At u32At orderOf hasMagic kindOf shapeIn hasNone hasExtensions firstBelow datatypeOf isWhole wholeOf ofBits lt imageBytes voxels axes
-zero-bytes = refl
+offsets = refl
 
-a-accepted : reading fileA ≡ 0 ∷ []
-unfolding readingOf judgement verdict holdsIn u16At u32At orderOf hasMagic kindOf shapeIn hasNone hasExtensions firstBelow datatypeOf isWhole wholeOf ofBits lt imageBytes voxels axes
-a-accepted = refl
-
-a-cut : reading (take 363 fileA) ≡ 11 ∷ 108 ∷ []
-unfolding readingOf judgement verdict holdsIn u16At u32At orderOf hasMagic kindOf shapeIn hasNone hasExtensions firstBelow datatypeOf isWhole wholeOf ofBits lt imageBytes voxels axes
-a-cut = refl
-
-a-voxel : at fileA 2 1 ≡ 0 ∷ 362 ∷ 2 ∷ []
-unfolding readingOf judgement verdict holdsIn u16At u32At orderOf hasMagic kindOf shapeIn hasNone hasExtensions firstBelow datatypeOf isWhole wholeOf ofBits lt imageBytes voxels axes sevenAxes within rank locatedIn locatedOf headerOf
-a-voxel = refl
-
-a-outside : at fileA 3 0 ≡ 17 ∷ 0 ∷ []
-unfolding readingOf judgement verdict holdsIn u16At u32At orderOf hasMagic kindOf shapeIn hasNone hasExtensions firstBelow datatypeOf isWhole wholeOf ofBits lt imageBytes voxels axes sevenAxes within rank locatedIn locatedOf headerOf
-a-outside = refl
-
-bits-352 : ofOffset (offsetOf 0x43B00000) ≡ 0 ∷ 352 ∷ []
-unfolding offsetOf isWhole wholeOf ofBits lt
-bits-352 = refl
-
-bits-fraction : reading (fileWith (0 ∷ 0x40 ∷ 0xB0 ∷ 0x43 ∷ [])) ≡ 8 ∷ 108 ∷ []
-unfolding readingOf judgement verdict holdsIn u16At u32At orderOf hasMagic kindOf shapeIn hasNone hasExtensions firstBelow datatypeOf isWhole wholeOf ofBits lt imageBytes voxels axes
-bits-fraction = refl
-
-bits-351 : reading (fileWith (0 ∷ 0x80 ∷ 0xAF ∷ 0x43 ∷ [])) ≡ 9 ∷ 108 ∷ []
-unfolding readingOf judgement verdict holdsIn u16At u32At orderOf hasMagic kindOf shapeIn hasNone hasExtensions firstBelow datatypeOf isWhole wholeOf ofBits lt imageBytes voxels axes
-bits-351 = refl
-
-bits-limit : ofOffset (offsetOf 0x4D000000) ≡ 0 ∷ 134217728 ∷ []
-unfolding offsetOf isWhole wholeOf ofBits lt
-bits-limit = refl
-
-bits-above : reading (fileWith (1 ∷ 0 ∷ 0 ∷ 0x4D ∷ [])) ≡ 9 ∷ 108 ∷ []
-unfolding readingOf judgement verdict holdsIn u16At u32At orderOf hasMagic kindOf shapeIn hasNone hasExtensions firstBelow datatypeOf isWhole wholeOf ofBits lt imageBytes voxels axes
-bits-above = refl
-
-payload-sizes : sizeFor 0 ∷ sizeFor 8 ∷ sizeFor 9 ∷ [] ≡ 16 ∷ 16 ∷ 32 ∷ []
-payload-sizes = refl
-
-append-length : ofEdited (answerOf note) ≡ 0 ∷ 380 ∷ []
+-- what payloads of 0, 8 and 9 bytes take; 5 bytes appended to A: the length, and vox_offset
+append :
+    (sizeFor 0 ∷ sizeFor 8 ∷ sizeFor 9 ∷ [])
+    ∷ ofEdited (editAnswer note)
+    ∷ reverse (take 4 (drop 108 appended))
+    ∷ []
+    ≡ (16 ∷ 16 ∷ 32 ∷ [])
+    ∷ (0 ∷ 380 ∷ [])
+    ∷ (0x43 ∷ 0xB8 ∷ 0 ∷ 0 ∷ [])
+    ∷ []
 unfolding readingOf judgement verdict holdsIn u16At u32At orderOf hasMagic kindOf shapeIn hasNone hasExtensions firstBelow datatypeOf isWhole wholeOf ofBits lt imageBytes voxels axes outcomeOf changeVerdict freshFile editedList extensionList exchange stored endOf tailOf pieces settled put bytesOf padded offsetBits toBits ofInt
-append-length = refl
+append = refl
 
-append-offset : reverse (take 4 (drop 108 appended)) ≡ 0x43 ∷ 0xB8 ∷ 0 ∷ 0 ∷ []
-unfolding readingOf judgement verdict holdsIn u16At u32At orderOf hasMagic kindOf shapeIn hasNone hasExtensions firstBelow datatypeOf isWhole wholeOf ofBits lt imageBytes voxels axes outcomeOf changeVerdict freshFile editedList extensionList exchange stored endOf tailOf pieces settled put bytesOf padded offsetBits toBits ofInt
-append-offset = refl
-
-append-voxel : at appended 2 1 ≡ 0 ∷ 378 ∷ 2 ∷ []
-unfolding readingOf judgement verdict holdsIn u16At u32At orderOf hasMagic kindOf shapeIn hasNone hasExtensions firstBelow datatypeOf isWhole wholeOf ofBits lt imageBytes voxels axes sevenAxes within rank locatedIn locatedOf headerOf outcomeOf changeVerdict freshFile editedList extensionList exchange stored endOf tailOf pieces settled put bytesOf padded offsetBits toBits ofInt extensionsIn walk found sizeRule
+-- voxel (2,1) after it
+append-voxel :
+    at appended 2 1
+    ∷ []
+    ≡ (0 ∷ 378 ∷ 2 ∷ [])
+    ∷ []
+unfolding readingOf judgement verdict holdsIn u16At u32At orderOf hasMagic kindOf shapeIn hasNone hasExtensions firstBelow datatypeOf isWhole wholeOf ofBits lt imageBytes voxels axes sevenAxes within voxelNumber locatedIn locatedOf headerOf outcomeOf changeVerdict freshFile editedList extensionList exchange stored endOf tailOf pieces settled put bytesOf padded offsetBits toBits ofInt extensionsIn walk found sizeRule
 append-voxel = refl
 
-ranks-alt-inc : ranks 3 ≡ 0 ∷ 3 ∷ 1 ∷ 4 ∷ 2 ∷ []
-unfolding orderIn altRank alt2Rank rankOf
-ranks-alt-inc = refl
+-- slices 0 to 5 by ALT_INC: padding, then the ranks of 1 to 5
+alt-inc :
+    slicesBy 3
+    ∷ []
+    ≡ (1 ∷ 2 ∷ 0 ∷ 2 ∷ 3 ∷ 2 ∷ 1 ∷ 2 ∷ 4 ∷ 2 ∷ 2 ∷ [])
+    ∷ []
+unfolding readingOf judgement verdict holdsIn u16At u32At orderOf hasMagic kindOf shapeIn hasNone hasExtensions firstBelow datatypeOf isWhole wholeOf ofBits lt imageBytes voxels axes sliceOf sliceIn firstOf isStated headerOf mul ofInt orderIn altRank alt2Rank rankOf
+alt-inc = refl
 
-ranks-alt-dec2 : ranks 6 ≡ 4 ∷ 1 ∷ 3 ∷ 0 ∷ 2 ∷ []
-unfolding orderIn altRank alt2Rank rankOf
-ranks-alt-dec2 = refl
-
-slice-0 : ofSlice (sliceOf (slicesFile 3) 0) ≡ 1 ∷ []
-unfolding readingOf judgement verdict holdsIn u16At u32At orderOf hasMagic kindOf shapeIn hasNone hasExtensions firstBelow datatypeOf isWhole wholeOf ofBits lt imageBytes voxels axes sliceOf sliceIn firstOf isStated headerOf mul ofInt
-slice-0 = refl
+-- the same by ALT_DEC2
+alt-dec2 :
+    slicesBy 6
+    ∷ []
+    ≡ (1 ∷ 2 ∷ 4 ∷ 2 ∷ 1 ∷ 2 ∷ 3 ∷ 2 ∷ 0 ∷ 2 ∷ 2 ∷ [])
+    ∷ []
+unfolding readingOf judgement verdict holdsIn u16At u32At orderOf hasMagic kindOf shapeIn hasNone hasExtensions firstBelow datatypeOf isWhole wholeOf ofBits lt imageBytes voxels axes sliceOf sliceIn firstOf isStated headerOf mul ofInt orderIn altRank alt2Rank rankOf
+alt-dec2 = refl
 
 pub table :
     -- the empty file; 348 zero bytes; A; A cut to 363
@@ -106,21 +120,23 @@ pub table :
     -- in A voxel (2,1), and (3,0)
     ∷ at fileA 2 1
     ∷ at fileA 3 0
-    -- offset bits: 43B00000, 43B04000, 43AF8000, 4D000000, 4D000001
-    ∷ ofOffset (offsetOf 0x43B00000)
-    ∷ reading (fileWith (0 ∷ 0x40 ∷ 0xB0 ∷ 0x43 ∷ []))
-    ∷ reading (fileWith (0 ∷ 0x80 ∷ 0xAF ∷ 0x43 ∷ []))
-    ∷ ofOffset (offsetOf 0x4D000000)
-    ∷ reading (fileWith (1 ∷ 0 ∷ 0 ∷ 0x4D ∷ []))
-    -- what payloads of 0, 8 and 9 bytes take; 5 bytes appended to A: the length, vox_offset, voxel (2,1)
+    -- offset bits 43B00000, 43B04000 and 43AF8000 in a single file, 4D000000 in a pair, 4D000001 in both
+    ∷ offsetRead fileA
+    ∷ offsetRead (fileWith (0 ∷ 0x40 ∷ 0xB0 ∷ 0x43 ∷ []))
+    ∷ offsetRead (fileWith (0 ∷ 0x80 ∷ 0xAF ∷ 0x43 ∷ []))
+    ∷ offsetRead (pairWith (0 ∷ 0 ∷ 0 ∷ 0x4D ∷ []))
+    ∷ offsetRead (fileWith (1 ∷ 0 ∷ 0 ∷ 0x4D ∷ []))
+    ∷ offsetRead (pairWith (1 ∷ 0 ∷ 0 ∷ 0x4D ∷ []))
+    -- what payloads of 0, 8 and 9 bytes take; 5 bytes appended to A: the length, and vox_offset
     ∷ (sizeFor 0 ∷ sizeFor 8 ∷ sizeFor 9 ∷ [])
-    ∷ ofEdited (answerOf note)
+    ∷ ofEdited (editAnswer note)
     ∷ reverse (take 4 (drop 108 appended))
+    -- voxel (2,1) after it
     ∷ at appended 2 1
-    -- slices 1 to 5 by ALT_INC and by ALT_DEC2; slice 0
-    ∷ ranks 3
-    ∷ ranks 6
-    ∷ ofSlice (sliceOf (slicesFile 3) 0)
+    -- slices 0 to 5 by ALT_INC: padding, then the ranks of 1 to 5
+    ∷ slicesBy 3
+    -- the same by ALT_DEC2
+    ∷ slicesBy 6
     ∷ []
     ≡ (1 ∷ 0 ∷ [])
     ∷ (2 ∷ 40 ∷ [])
@@ -133,32 +149,12 @@ pub table :
     ∷ (9 ∷ 108 ∷ [])
     ∷ (0 ∷ 134217728 ∷ [])
     ∷ (9 ∷ 108 ∷ [])
+    ∷ (9 ∷ 108 ∷ [])
     ∷ (16 ∷ 16 ∷ 32 ∷ [])
     ∷ (0 ∷ 380 ∷ [])
     ∷ (0x43 ∷ 0xB8 ∷ 0 ∷ 0 ∷ [])
     ∷ (0 ∷ 378 ∷ 2 ∷ [])
-    ∷ (0 ∷ 3 ∷ 1 ∷ 4 ∷ 2 ∷ [])
-    ∷ (4 ∷ 1 ∷ 3 ∷ 0 ∷ 2 ∷ [])
-    ∷ (1 ∷ [])
+    ∷ (1 ∷ 2 ∷ 0 ∷ 2 ∷ 3 ∷ 2 ∷ 1 ∷ 2 ∷ 4 ∷ 2 ∷ 2 ∷ [])
+    ∷ (1 ∷ 2 ∷ 4 ∷ 2 ∷ 1 ∷ 2 ∷ 3 ∷ 2 ∷ 0 ∷ 2 ∷ 2 ∷ [])
     ∷ []
-table =
-    λ i.
-    empty-file i
-    ∷ zero-bytes i
-    ∷ a-accepted i
-    ∷ a-cut i
-    ∷ a-voxel i
-    ∷ a-outside i
-    ∷ bits-352 i
-    ∷ bits-fraction i
-    ∷ bits-351 i
-    ∷ bits-limit i
-    ∷ bits-above i
-    ∷ payload-sizes i
-    ∷ append-length i
-    ∷ append-offset i
-    ∷ append-voxel i
-    ∷ ranks-alt-inc i
-    ∷ ranks-alt-dec2 i
-    ∷ slice-0 i
-    ∷ []
+table = λ i. files i ++ (in-a i ++ (offsets i ++ (append i ++ (append-voxel i ++ (alt-inc i ++ (alt-dec2 i))))))

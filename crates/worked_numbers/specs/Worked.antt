@@ -1,15 +1,14 @@
 -- 01-scope.md, "Numbers on each side": file A, and each answer as a list of the paper's numbers, so that all rows are one table.
-use Prim.Native.Nat.{ℕ, _+_}
+use Prim.Native.Nat.{ℕ}
 use mathlib.Core.List.{List, [], _∷_, _++_}
 use lib.IntN.{pos}
 use lib.ListN.{take, replicate}
-use Rattle.field.specs.Numbers.{tabulate}
+use Rattle.field.specs.Numbers.{tabulate, joined}
+use Rattle.refusal.specs.declared.Refusal.{Refusal}
 use Rattle.refusal.specs.declared.Verdict.{Verdict}
-use Rattle.refusal.specs.declared.Verdict.the-variants.{Accepted, Refused}
-use Rattle.offset.specs.declared.Offset.{Offset}
-use Rattle.offset.specs.declared.Offset.the-variants.{Whole, NotWhole, TooLarge}
-use Rattle.slices.specs.Ranks.{rankIn}
+use Rattle.refusal.specs.Table.{decided}
 use Rattle.reader.specs.Reading.{readingOf}
+use Rattle.timing.specs.Slices.{sliceOf}
 use Rattle.timing.specs.declared.Slice.{Slice}
 use Rattle.timing.specs.declared.Slice.the-variants as slice
 use Rattle.voxel.specs.declared.Located.{Located}
@@ -25,31 +24,40 @@ zeros n = replicate n 0
 
 -- "File A: little-endian single, dim[0] = 2, dim[1] = 3, dim[2] = 2, datatype 4, bitpix 16, vox_offset 352, all other fields but
 -- sizeof_hdr and magic zero, zero extender, 12 image bytes, 364 bytes."
-abbrev pub fileWith : List ℕ → List ℕ
-fileWith offset =
+abbrev headWith : List ℕ → ℕ → List ℕ
+headWith offset letter =
     0x5C ∷ 0x01 ∷ zeros 38
     ++ (2 ∷ 0 ∷ 3 ∷ 0 ∷ 2 ∷ 0 ∷ zeros 24
     ++ (4 ∷ 0 ∷ 16 ∷ 0 ∷ zeros 34
     ++ (offset
     ++ (zeros 232
-    ++ (0x6E ∷ 0x2B ∷ 0x31 ∷ 0 ∷ zeros 16)))))
+    ++ (0x6E ∷ letter ∷ 0x31 ∷ 0 ∷ [])))))
 
--- vox_offset is the four bytes at 108: 43B00000 is 352
+-- A with other bytes of vox_offset, the four at 108; and a pair's header file of 348 bytes with the same fields
+abbrev pub fileWith : List ℕ → List ℕ
+fileWith offset = headWith offset 0x2B ++ zeros 16
+
+abbrev pub pairWith : List ℕ → List ℕ
+pairWith offset = headWith offset 0x69
+
+-- 43B00000 is 352
 abbrev pub fileA : List ℕ
 fileA = fileWith (0 ∷ 0 ∷ 0xB0 ∷ 0x43 ∷ [])
 
 -- an answer's numbers: 0 for success, or the refusal's number and place
+abbrev pub ofRefusal : Refusal → List ℕ
+ofRefusal r = r .number ∷ r .place ∷ []
+
 abbrev pub ofVerdict : Verdict → List ℕ
-ofVerdict Accepted = 0 ∷ []
-ofVerdict (Refused r) = r .number ∷ r .place ∷ []
+ofVerdict v = decided v (0 ∷ []) ofRefusal
 
 abbrev pub ofLocated : Located → List ℕ
 ofLocated (At e) = 0 ∷ e .place ∷ e .length ∷ []
-ofLocated (Unlocated r) = r .number ∷ r .place ∷ []
+ofLocated (Unlocated r) = ofRefusal r
 
 abbrev pub ofEdited : Edited → List ℕ
-ofEdited (Done n) = 0 ∷ n ∷ []
-ofEdited (Denied r) = r .number ∷ r .place ∷ []
+ofEdited (Done file) = 0 ∷ file .length ∷ []
+ofEdited (Denied r) = ofRefusal r
 
 -- a voxel of two indexes, of a single file
 abbrev pub at : List ℕ → ℕ → ℕ → List ℕ
@@ -58,10 +66,9 @@ at file i j = ofLocated (locatedOf file [] (i ∷ j ∷ 0 ∷ 0 ∷ 0 ∷ 0 ∷ 
 abbrev pub reading : List ℕ → List ℕ
 reading file = ofVerdict (readingOf file .verdict)
 
-abbrev pub ofOffset : Offset → List ℕ
-ofOffset (Whole n) = 0 ∷ n ∷ []
-ofOffset NotWhole = 8 ∷ []
-ofOffset TooLarge = 9 ∷ []
+-- a file's offset, where it is accepted
+abbrev pub offsetRead : List ℕ → List ℕ
+offsetRead file = decided (readingOf file .verdict) (0 ∷ readingOf file .image .offset ∷ []) ofRefusal
 
 -- "Appending 5 bytes to A", in a buffer of 400 bytes
 abbrev pub buffer : List ℕ
@@ -86,11 +93,11 @@ slicesFile code =
 
 -- a slice's answer: 0 unstated, 1 padding, 2 with the rank; or the refusal
 abbrev pub ofSlice : Slice → List ℕ
-ofSlice (slice.Refused r) = r .number ∷ r .place ∷ []
+ofSlice (slice.Refused r) = ofRefusal r
 ofSlice slice.Unstated = 0 ∷ []
 ofSlice slice.Padding = 1 ∷ []
 ofSlice (slice.Timed rank t) = 2 ∷ rank ∷ []
 
--- the ranks of slices 1 to 5, with start 1 and end 5
-abbrev pub ranks : ℕ → List ℕ
-ranks code = tabulate (λ i. rankIn code 1 5 (1 + i)) 5
+-- the answers of slices 0 to 5, one after the other
+abbrev pub slicesBy : ℕ → List ℕ
+slicesBy code = joined (tabulate (λ i. ofSlice (sliceOf (slicesFile code) i)) 6)

@@ -1,16 +1,31 @@
 -- Demand 2: "Writing the record gives the same 348 bytes." The record of an accepted file is never refused for what it holds, and
 -- written to any buffer that has room it puts the file's first 348 bytes there and leaves the rest.
 use Prim.Native.Nat.{ℕ, _≤_, _<_}
-use mathlib.Core.Path.{_≡_}
+use mathlib.Core.Path.{_≡_, ap, _∙_}
 use mathlib.Core.List.{List, _++_}
 use borrow.Author.Tests.{le-ltb}
 use lib.ListN.{length, getD, take, drop}
+use Rattle.field.specs.Numbers.{bytesAt}
 use Rattle.refusal.specs.declared.Verdict.the-variants.{Accepted}
 use Rattle.refusal.proofs.Rows.{none, one, clear-accepted, clear-append}
 use Rattle.reader.specs.Reading.{readingOf, IsAccepted}
-use Rattle.reader.proofs.Accepted.{accepted-record}
-use Rattle.reader.proofs.Theorems.{accepted-back}
+use Rattle.layout.specs.File.{orderOf, kindOf, hasMagic, layoutOf}
+use Rattle.encode.specs.Encode.{encode}
+use Rattle.encode.proofs.Round.{header-back}
+use Rattle.extension.specs.Listing.{spansOf}
+use Rattle.header.specs.Fields.{magicOf}
+use Rattle.reader.specs.declared.Reading.{Reading}
+use Rattle.reader.proofs.File.{accepted-file, accepted-list, accepted-reads, accepted-record, same-is}
 use Rattle.writer.specs.Write.{writeAnswer, written}
+
+-- the record of an accepted file states the file's own bytes
+pub accepted-back : (s : List ℕ) (a : IsAccepted s) → ((i : ℕ) → getD s i 0 < 256) → encode (readingOf s .header) ≡ take 348 s
+unfolding hasMagic
+accepted-back s a all =
+    let r = accepted-file s a .file .rules in
+    let xs = accepted-list s a in
+    ap (λ (x : Reading). encode (x .header)) (accepted-reads s a)
+    ∙ header-back (orderOf s) s all (kindOf s) (length xs) (spansOf xs) (r .size) (same-is (bytesAt 344 4 s) (magicOf (kindOf s)) (r .magic)) (r .long)
 
 module _ (s : List ℕ) (a : IsAccepted s) (l : List ℕ) (room : 348 ≤ length l) where
   pub write-accepts : writeAnswer (readingOf s .header) (length l) ≡ Accepted

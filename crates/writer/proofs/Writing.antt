@@ -10,18 +10,19 @@ use lib.Seq.{sets}
 use Rattle.refusal.specs.declared.Refusal.{Refusal}
 use Rattle.refusal.specs.declared.Verdict.{Verdict}
 use Rattle.refusal.specs.declared.Verdict.the-variants.{Accepted, Refused}
-use Rattle.refusal.specs.Table.{row, refusal, verdict}
-use Rattle.refusal.proofs.Rows.{then, verdict-append}
+use Rattle.refusal.specs.Table.{row, refusal, verdict, decided, then}
+use Rattle.refusal.proofs.Rows.{verdict-append}
 use Rattle.field.proofs.Stores.{sets-front}
 use Rattle.extension.specs.declared.Span.{Span}
 use Rattle.header.specs.declared.Header.{Header}
+use Rattle.header.specs.Fields.{withSpans}
 use Rattle.encode.specs.Encode.{encode}
 use Rattle.encode.proofs.Widths.{length-encode}
 use Rattle.rules.specs.declared.Image.{Image}
 use Rattle.rules.specs.declared.Judged.the-variants.{Passed, Failed}
 use Rattle.rules.specs.Rules.{recordRows, recordJudged}
 use Rattle.rules.proofs.Passed.{record-passed-is, record-failed-is}
-use Rattle.writer.specs.Write.{writeRows, writeAnswer, contentBy, written}
+use Rattle.writer.specs.Write.{writeRows, writeAnswer, written}
 
 -- an answer and a content, as a call promises them
 abbrev pub Writes : Header → List ℕ → Verdict → List ℕ → Type 0
@@ -53,28 +54,7 @@ module _ (h : Header) (l : List ℕ) where
         (sym a, rw a (rw n at (sets-front (encode h) l fits)))
 
 -- "doesn't read the spans": records that differ in their count and spans alone are written alike
-abbrev pub withSpans : Header → ℕ → List Span → Header
-withSpans h count spans =
-    record {
-      order = h .order;
-      kind = h .kind;
-      dim = h .dim;
-      count = count;
-      spans = spans;
-      key = h .key;
-      intent = h .intent;
-      scale = h .scale;
-      display = h .display;
-      quatern = h .quatern;
-      rows = h .rows;
-    }
-
-same-content : (v : Verdict) (h : Header) (count : ℕ) (spans : List Span) (l : List ℕ) → contentBy v (withSpans h count spans) l ≡ contentBy v h l
-unfolding encode
-same-content Accepted h count spans l = refl
-same-content (Refused r) h count spans l = refl
-
 pub spans-unread : (h : Header) (count : ℕ) (spans : List Span) (l : List ℕ)
-    → (writeAnswer (withSpans h count spans) (length l) ≡ writeAnswer h (length l)) × (written (withSpans h count spans) l ≡ written h l)
-unfolding writeAnswer written
-spans-unread h count spans l = (refl, same-content (verdict (writeRows h (length l))) h count spans l)
+    → (writeAnswer (withSpans count spans h) (length l) ≡ writeAnswer h (length l)) × (written (withSpans count spans h) l ≡ written h l)
+unfolding writeAnswer written encode
+spans-unread h count spans l = (refl, refl)

@@ -5,8 +5,7 @@ use mathlib.Core.List.{List, [], _∷_, _++_}
 use lib.Dec.{ltb}
 use lib.ListN.{length, drop}
 use Rattle.refusal.specs.declared.Verdict.{Verdict}
-use Rattle.refusal.specs.declared.Verdict.the-variants.{Accepted, Refused}
-use Rattle.refusal.specs.Table.{Row, row, verdict}
+use Rattle.refusal.specs.Table.{Row, row, verdict, decided}
 use Rattle.header.specs.declared.Header.{Header}
 use Rattle.encode.specs.Encode.{encode}
 use Rattle.rules.specs.Rules.{recordRows}
@@ -18,10 +17,6 @@ writeRows h len = recordRows h ++ (row 22 (ltb len 348) 0 ∷ [])
 unfoldable pub writeAnswer : Header → ℕ → Verdict
 writeAnswer h len = verdict (writeRows h len)
 
-abbrev pub contentBy : Verdict → Header → List ℕ → List ℕ
-contentBy Accepted h l = encode h ++ drop 348 l
-contentBy (Refused r) h l = l
-
 -- what the buffer l holds afterwards
 unfoldable pub written : Header → List ℕ → List ℕ
-written h l = contentBy (writeAnswer h (length l)) h l
+written h l = decided (writeAnswer h (length l)) (encode h ++ drop 348 l) (λ r. l)

@@ -16,8 +16,8 @@ loop-holds c = tt
 add-i : tie.Need-add-i Inv-loop μ-loop
 add-i c = search needs
 
-extent-of-requires : tie.Need-extent-of-requires Inv-loop μ-loop
-extent-of-requires c κs = search needs
+axis-length-requires : tie.Need-axis-length-requires Inv-loop μ-loop
+axis-length-requires c κs = search needs
 
 put-number-requires : tie.Need-put-number-requires Inv-loop μ-loop
 put-number-requires c κs = search needs
@@ -39,7 +39,7 @@ put-axes-spec =
     μ-loop
     loop-holds
     add-i
-    extent-of-requires
+    axis-length-requires
     put-number-requires
     loop-less
     loop-again

@@ -1,6 +1,7 @@
 -- `put_spans` is safe and ends: the loop's own test keeps the index inside the array, and the measure is what is left of it.
 use Prim.Native.Nat.{_-_}
 use borrow.Author.Needs.{needs}
+use Rattle.extension.specs.Walk.{extensionLimit}
 use Rattle.nifti_list.proofs.put_spans.Statement.{statement}
 use Rattle.nifti_list.proofs.put_spans.Tie as tie
 
@@ -8,7 +9,7 @@ abbrev Inv-loop : tie.InvT-loop
 Inv-loop count spans i₀ i = Unit {0}
 
 abbrev μ-loop : tie.MeasureT-loop
-μ-loop count spans i₀ i = 64 - i
+μ-loop count spans i₀ i = extensionLimit - i
 
 loop-holds : tie.Need-loop-holds Inv-loop μ-loop
 loop-holds c = tt

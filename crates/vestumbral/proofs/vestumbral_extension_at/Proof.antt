@@ -1,6 +1,7 @@
 -- `vestumbral_extension_at` meets its contract: the verdict decides.
 use mathlib.Core.Path.{ap, sym, _∙_}
-use Rattle.vestumbral.specs.Answers.{extensionBy, extensionAnswer}
+use Rattle.refusal.specs.Table.{decided}
+use Rattle.answers.specs.Answers.{extensionIn, refusedExtension, extensionAnswer}
 use borrow.Author.Needs.{needs}
 use Rattle.vestumbral.proofs.vestumbral_extension_at.Statement.{statement}
 use Rattle.vestumbral.proofs.vestumbral_extension_at.Tie as tie
@@ -26,7 +27,7 @@ returns c =
     let r = c .before .before .before .before in
     let a = r .before .before .args in
     c .refused-extension .ensures
-    ∙ (λ i. extensionBy (sym (c .before .before .verdict .given .1) i) (r .read .result .header) (a .number))
+    ∙ (λ i. decided (sym (c .before .before .verdict .given .1) i) (extensionIn (r .read .result .header) (a .number)) refusedExtension)
     ∙ ap (λ x. extensionAnswer x (a .number)) (r .read .ensures)
 
 returns-2 : tie.Need-returns-2
@@ -35,7 +36,7 @@ returns-2 c =
     let r = c .before .before .before .before in
     let a = r .before .before .args in
     c .extension-in .ensures
-    ∙ (λ i. extensionBy (sym (c .before .before .enum-told .given .1) i) (r .read .result .header) (a .number))
+    ∙ (λ i. decided (sym (c .before .before .enum-told .given .1) i) (extensionIn (r .read .result .header) (a .number)) refusedExtension)
     ∙ ap (λ x. extensionAnswer x (a .number)) (r .read .ensures)
 
 pub vestumbral-extension-at-spec : {M : Type 1} → statement M

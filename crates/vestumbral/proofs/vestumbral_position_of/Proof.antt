@@ -1,6 +1,6 @@
 -- `vestumbral_position_of` meets its contract, which is that of `position_of`.
 use mathlib.Core.Path.{ap, _∙_}
-use Rattle.vestumbral.specs.Answers.{positionAnswer}
+use Rattle.answers.specs.Answers.{positionAnswer}
 use borrow.Author.Needs.{needs}
 use Rattle.vestumbral.proofs.vestumbral_position_of.Statement.{statement}
 use Rattle.vestumbral.proofs.vestumbral_position_of.Tie as tie

@@ -1,8 +1,9 @@
 -- `vestumbral_read` meets its contract: the verdict decides; an accepted file has at most 64 extensions.
 use mathlib.Core.Path.{ap, sym, _∙_}
 use denote.Ref.{now}
-use Rattle.vestumbral.specs.Answers.{fileBy, fileAnswer}
-use Rattle.vestumbral.proofs.Counts.{count-most}
+use Rattle.refusal.specs.Table.{decided}
+use Rattle.reader.proofs.File.{count-most}
+use Rattle.answers.specs.Answers.{shownFile, refusedFile, fileAnswer}
 use borrow.Author.Needs.{needs}
 use Rattle.vestumbral.proofs.vestumbral_read.Statement.{statement}
 use Rattle.vestumbral.proofs.vestumbral_read.Tie as tie
@@ -29,7 +30,7 @@ unfolding fileAnswer
 returns c =
     let r = c .before .before .before .before in
     c .refused-file .ensures
-    ∙ (λ i. fileBy (sym (c .before .before .verdict .given .1) i) (r .read .result .header) (r .read .result .image))
+    ∙ (λ i. decided (sym (c .before .before .verdict .given .1) i) (shownFile (r .read .result .header) (r .read .result .image)) refusedFile)
     ∙ ap fileAnswer (r .read .ensures)
 
 returns-2 : tie.Need-returns-2
@@ -37,7 +38,7 @@ unfolding fileAnswer
 returns-2 c =
     let r = c .before .before .before .before .before in
     c .shown-file .ensures
-    ∙ (λ i. fileBy (sym (c .before .before .before .enum-told .given .1) i) (r .read .result .header) (r .read .result .image))
+    ∙ (λ i. decided (sym (c .before .before .before .enum-told .given .1) i) (shownFile (r .read .result .header) (r .read .result .image)) refusedFile)
     ∙ ap fileAnswer (r .read .ensures)
 
 pub vestumbral-read-spec : {M : Type 1} → statement M

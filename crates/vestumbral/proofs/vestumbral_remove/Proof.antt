@@ -1,6 +1,6 @@
 -- `vestumbral_remove` meets its contract, which is that of `remove`.
 use mathlib.Core.Path.{ap, _∙_}
-use Rattle.vestumbral.specs.Answers.{editReply}
+use Rattle.answers.specs.Answers.{editReply}
 use borrow.Author.Needs.{needs}
 use Rattle.vestumbral.proofs.vestumbral_remove.Statement.{statement}
 use Rattle.vestumbral.proofs.vestumbral_remove.Tie as tie

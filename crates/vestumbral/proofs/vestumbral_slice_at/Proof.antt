@@ -1,6 +1,6 @@
 -- `vestumbral_slice_at` meets its contract, which is that of `slice_at`.
 use mathlib.Core.Path.{ap, _∙_}
-use Rattle.vestumbral.specs.Answers.{sliceAnswer}
+use Rattle.answers.specs.Answers.{sliceAnswer}
 use borrow.Author.Needs.{needs}
 use Rattle.vestumbral.proofs.vestumbral_slice_at.Statement.{statement}
 use Rattle.vestumbral.proofs.vestumbral_slice_at.Tie as tie

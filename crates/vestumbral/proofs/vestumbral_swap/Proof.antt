@@ -1,6 +1,6 @@
 -- `vestumbral_swap` meets its contract, which is that of `swap`.
 use mathlib.Core.Path.{ap, _∙_}
-use Rattle.vestumbral.specs.Answers.{swapReply}
+use Rattle.answers.specs.Answers.{swapReply}
 use borrow.Author.Needs.{needs}
 use Rattle.vestumbral.proofs.vestumbral_swap.Statement.{statement}
 use Rattle.vestumbral.proofs.vestumbral_swap.Tie as tie

@@ -1,6 +1,6 @@
 -- `vestumbral_voxel` meets its contract, which is that of `locate`.
 use mathlib.Core.Path.{ap, _∙_}
-use Rattle.vestumbral.specs.Answers.{voxelReply}
+use Rattle.answers.specs.Answers.{voxelReply}
 use borrow.Author.Needs.{needs}
 use Rattle.vestumbral.proofs.vestumbral_voxel.Statement.{statement}
 use Rattle.vestumbral.proofs.vestumbral_voxel.Tie as tie

@@ -4,10 +4,10 @@ use native.Mathlib.Omega.{arith}
 use borrow.Author.Tests.{lt-ltb, le-ltb}
 use mir.Syntax.{w32}
 use mir.Val.{toZ, ofZ}
-use Rattle.vestumbral.specs.Answers.{shownExtension}
+use Rattle.answers.specs.Answers.{shownExtension}
 use borrow.Author.Needs.{needs}
-use Rattle.vestumbral.proofs.extension_in.Statement.{statement}
-use Rattle.vestumbral.proofs.extension_in.Tie as tie
+use Rattle.answers.proofs.extension_in.Statement.{statement}
+use Rattle.answers.proofs.extension_in.Tie as tie
 
 refused-extension-requires : tie.Need-refused-extension-requires
 refused-extension-requires c κs = search needs

@@ -1,7 +1,7 @@
 -- `edit_reply` meets its contract: each case's struct.
 use borrow.Author.Needs.{needs}
-use Rattle.vestumbral.proofs.edit_reply.Statement.{statement}
-use Rattle.vestumbral.proofs.edit_reply.Tie as tie
+use Rattle.answers.proofs.edit_reply.Statement.{statement}
+use Rattle.answers.proofs.edit_reply.Tie as tie
 
 enum-known-edited : tie.Need-enum-known-edited
 enum-known-edited c = search needs

@@ -1,8 +1,8 @@
 -- `position_answer` meets its contract: each case's struct; the literal 0.0 is plus zero.
 use lib.Ieee.{ofBits}
 use borrow.Author.Needs.{needs}
-use Rattle.vestumbral.proofs.position_answer.Statement.{statement}
-use Rattle.vestumbral.proofs.position_answer.Tie as tie
+use Rattle.answers.proofs.position_answer.Statement.{statement}
+use Rattle.answers.proofs.position_answer.Tie as tie
 
 enum-known-positioned : tie.Need-enum-known-positioned
 enum-known-positioned c = search needs

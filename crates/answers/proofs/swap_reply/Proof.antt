@@ -1,7 +1,7 @@
 -- `swap_reply` meets its contract: each case's struct.
 use borrow.Author.Needs.{needs}
-use Rattle.vestumbral.proofs.swap_reply.Statement.{statement}
-use Rattle.vestumbral.proofs.swap_reply.Tie as tie
+use Rattle.answers.proofs.swap_reply.Statement.{statement}
+use Rattle.answers.proofs.swap_reply.Tie as tie
 
 enum-told : tie.Need-enum-told
 enum-told c = search needs

@@ -1,8 +1,8 @@
 -- `slice_answer` meets its contract: each case's struct; the literal 0.0 is plus zero.
 use lib.Ieee.{ofBits}
 use borrow.Author.Needs.{needs}
-use Rattle.vestumbral.proofs.slice_answer.Statement.{statement}
-use Rattle.vestumbral.proofs.slice_answer.Tie as tie
+use Rattle.answers.proofs.slice_answer.Statement.{statement}
+use Rattle.answers.proofs.slice_answer.Tie as tie
 
 enum-known-slice : tie.Need-enum-known-slice
 enum-known-slice c = search needs

@@ -1,19 +1,17 @@
 -- The structs of the C interface: for each answer of the library, the paper's number and values of each case. Refusal 0 stands for
 -- success, and beside a refusal every other number but the place is 0.
 use Prim.Native.Nat.{ℕ}
-use mathlib.Core.Bool.{cond}
+use mathlib.Core.Bool.{cond, false}
 use lib.Dec.{ltb}
 use lib.IntN.{pos}
 use lib.Ieee.{Float, fin}
 use lib.ListN.{getD, replicate}
-use Prim.Native.Nat.{ℕ}
-use mathlib.Core.Bool.{false}
 use Rattle.field.specs.declared.Order.{Order}
 use Rattle.field.specs.declared.Order.the-variants.{Little, Big}
 use Rattle.refusal.specs.declared.Refusal.{Refusal}
 use Rattle.refusal.specs.declared.Verdict.{Verdict}
 use Rattle.refusal.specs.declared.Verdict.the-variants.{Accepted, Refused}
-use Rattle.refusal.specs.Table.{refusal}
+use Rattle.refusal.specs.Table.{refusal, decided}
 use Rattle.extension.specs.declared.Span.{Span}
 use Rattle.extension.specs.Listing.{noSpan}
 use Rattle.header.specs.declared.Header.{Header}
@@ -29,11 +27,11 @@ use Rattle.position.specs.declared.Positioned.{Positioned}
 use Rattle.position.specs.declared.Positioned.the-variants as position
 use Rattle.edit.specs.declared.Edited.{Edited}
 use Rattle.edit.specs.declared.Edited.the-variants.{Done, Denied}
-use Rattle.vestumbral.specs.declared.Reply.{Reply}
-use Rattle.vestumbral.specs.declared.FileAnswer.{FileAnswer}
-use Rattle.vestumbral.specs.declared.ExtensionAnswer.{ExtensionAnswer}
-use Rattle.vestumbral.specs.declared.SliceAnswer.{SliceAnswer}
-use Rattle.vestumbral.specs.declared.PositionAnswer.{PositionAnswer}
+use Rattle.answers.specs.declared.Reply.{Reply}
+use Rattle.answers.specs.declared.FileAnswer.{FileAnswer}
+use Rattle.answers.specs.declared.ExtensionAnswer.{ExtensionAnswer}
+use Rattle.answers.specs.declared.SliceAnswer.{SliceAnswer}
+use Rattle.answers.specs.declared.PositionAnswer.{PositionAnswer}
 
 -- a refusal as a reply
 abbrev pub refusedReply : Refusal → Reply
@@ -51,7 +49,7 @@ swapReply (Refused r) = refusedReply r
 
 -- an edit answers the new length
 abbrev pub editReply : Edited → Reply
-editReply (Done n) = record { refusal = 0; place = 0; length = n }
+editReply (Done file) = record { refusal = 0; place = 0; length = file .length }
 editReply (Denied r) = refusedReply r
 
 abbrev pub bigEndian : Order → ℕ
@@ -93,12 +91,8 @@ refusedFile r =
       extensions = 0;
     }
 
-abbrev pub fileBy : Verdict → Header → Image → FileAnswer
-fileBy Accepted h i = shownFile h i
-fileBy (Refused r) h i = refusedFile r
-
 unfoldable pub fileAnswer : Reading → FileAnswer
-fileAnswer r = fileBy (r .verdict) (r .header) (r .image)
+fileAnswer r = decided (r .verdict) (shownFile (r .header) (r .image)) refusedFile
 
 -- one extension of a file: 1..15, then 18
 abbrev pub shownExtension : Span → ExtensionAnswer
@@ -107,12 +101,11 @@ shownExtension x = record { refusal = 0; place = 0; start = x .start; size = x .
 abbrev pub refusedExtension : Refusal → ExtensionAnswer
 refusedExtension r = record { refusal = r .number; place = r .place; start = 0; size = pos 0; code = pos 0 }
 
-abbrev pub extensionBy : Verdict → Header → ℕ → ExtensionAnswer
-extensionBy Accepted h n = cond (ltb n (h .count)) (shownExtension (getD (h .spans) n noSpan)) (refusedExtension (refusal 18 0))
-extensionBy (Refused r) h n = refusedExtension r
+abbrev pub extensionIn : Header → ℕ → ExtensionAnswer
+extensionIn h n = cond (ltb n (h .count)) (shownExtension (getD (h .spans) n noSpan)) (refusedExtension (refusal 18 0))
 
 unfoldable pub extensionAnswer : Reading → ℕ → ExtensionAnswer
-extensionAnswer r n = extensionBy (r .verdict) (r .header) n
+extensionAnswer r n = decided (r .verdict) (extensionIn (r .header) n) refusedExtension
 
 -- plus zero
 abbrev pub plusZero : Float

@@ -1,7 +1,7 @@
 -- `voxel_reply` meets its contract: each case's struct.
 use borrow.Author.Needs.{needs}
-use Rattle.vestumbral.proofs.voxel_reply.Statement.{statement}
-use Rattle.vestumbral.proofs.voxel_reply.Tie as tie
+use Rattle.answers.proofs.voxel_reply.Statement.{statement}
+use Rattle.answers.proofs.voxel_reply.Tie as tie
 
 enum-known-located : tie.Need-enum-known-located
 enum-known-located c = search needs

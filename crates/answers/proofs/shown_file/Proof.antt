@@ -3,8 +3,8 @@ use mathlib.Core.Path.{_≡_}
 use mir.Syntax.{w16}
 use mir.Val.{toZ, ofZ}
 use borrow.Author.Needs.{needs}
-use Rattle.vestumbral.proofs.shown_file.Statement.{statement}
-use Rattle.vestumbral.proofs.shown_file.Tie as tie
+use Rattle.answers.proofs.shown_file.Statement.{statement}
+use Rattle.answers.proofs.shown_file.Tie as tie
 
 big-endian-requires : tie.Need-big-endian-requires
 big-endian-requires c κs = search needs

@@ -1,0 +1,259 @@
+// The structs of the C interface, and which struct each answer of the library is (01-scope.md, "The console's old C
+// program calls the library with numbers and byte pointers"). Refusal 0 stands for success. The exports themselves are
+// the crate vestumbral.
+ghost use mathlib.Core.Path.{_≡_};
+ghost use Prim.Native.Nat.{_≤_};
+ghost use Rattle.extension.specs.Walk.{extensionLimit};
+ghost use Rattle.answers.specs.Answers.{refusedReply, voxelReply, swapReply, editReply, bigEndian, isPair};
+ghost use Rattle.answers.specs.Answers.{shownFile};
+ghost use Rattle.answers.specs.Answers.{refusedFile, refusedExtension, extensionIn, sliceAnswer, positionAnswer};
+use edit::Edited;
+use field::Order;
+use header::Header;
+use header::Kind;
+use position::Positioned;
+use refusal::Refusal;
+use refusal::Verdict;
+use rules::Image;
+use timing::Slice;
+use voxel::Located;
+
+// The answer of voxel, swap and edit.
+#[repr(C)]
+pub struct Reply {
+    pub refusal: u64,
+    pub place: u64,
+    pub length: u64,
+}
+
+// What reading a file answers.
+#[repr(C)]
+pub struct FileAnswer {
+    pub refusal: u64,
+    pub place: u64,
+    pub data_offset: u64,
+    pub data_bytes: u64,
+    pub big_endian: u32,
+    pub pair: u32,
+    pub dim: [i16; 8],
+    pub datatype: i16,
+    pub bitpix: i16,
+    pub extensions: u32,
+}
+
+// One extension.
+#[repr(C)]
+pub struct ExtensionAnswer {
+    pub refusal: u64,
+    pub place: u64,
+    pub start: u64,
+    pub size: i32,
+    pub code: i32,
+}
+
+// One slice: state 0 unstated, 1 padding, 2 timed.
+#[repr(C)]
+pub struct SliceAnswer {
+    pub refusal: u64,
+    pub place: u64,
+    pub state: u32,
+    pub rank: u32,
+    pub seconds: f32,
+}
+
+// A position.
+#[repr(C)]
+pub struct PositionAnswer {
+    pub refusal: u64,
+    pub place: u64,
+    pub x: f32,
+    pub y: f32,
+    pub z: f32,
+}
+
+fn refused_reply(r: Refusal) -> Reply
+    ensures { λ a. ⌜ a ≡ refusedReply r ⌝ }
+{
+    Reply {
+        refusal: r.number,
+        place: r.place as u64,
+        length: 0,
+    }
+}
+
+pub fn refused_file(r: Refusal) -> FileAnswer
+    ensures { λ a. ⌜ a ≡ refusedFile r ⌝ }
+{
+    FileAnswer {
+        refusal: r.number,
+        place: r.place as u64,
+        data_offset: 0,
+        data_bytes: 0,
+        big_endian: 0,
+        pair: 0,
+        dim: [0i16; 8],
+        datatype: 0,
+        bitpix: 0,
+        extensions: 0,
+    }
+}
+
+fn big_endian(order: Order) -> u32
+    ensures { λ a. ⌜ a ≡ bigEndian order ⌝ }
+{
+    match order {
+        Order::Little => 0,
+        Order::Big => 1,
+    }
+}
+
+fn is_pair(kind: Kind) -> u32
+    ensures { λ a. ⌜ a ≡ isPair kind ⌝ }
+{
+    match kind {
+        Kind::Single => 0,
+        Kind::Pair => 1,
+    }
+}
+
+pub fn shown_file(header: Header, image: Image) -> FileAnswer
+    requires { ⌜ header .count ≤ extensionLimit ⌝ }
+    ensures { λ a. ⌜ a ≡ shownFile header image ⌝ }
+{
+    let order = header.order;
+    let kind = header.kind;
+    let dim = header.dim;
+    let intent = header.intent;
+    FileAnswer {
+        refusal: 0,
+        place: 0,
+        data_offset: image.offset,
+        data_bytes: image.bytes,
+        big_endian: big_endian(order),
+        pair: is_pair(kind),
+        dim,
+        datatype: intent.datatype,
+        bitpix: intent.bitpix,
+        extensions: header.count as u32,
+    }
+}
+
+pub fn refused_extension(r: Refusal) -> ExtensionAnswer
+    ensures { λ a. ⌜ a ≡ refusedExtension r ⌝ }
+{
+    ExtensionAnswer {
+        refusal: r.number,
+        place: r.place as u64,
+        start: 0,
+        size: 0,
+        code: 0,
+    }
+}
+
+pub fn extension_in(header: Header, number: usize) -> ExtensionAnswer
+    ensures { λ a. ⌜ a ≡ extensionIn header number ⌝ }
+{
+    if header.count <= number {
+        return refused_extension(Refusal {
+            number: 18,
+            place: 0,
+        });
+    }
+    let spans = header.spans;
+    let x = extension::span_at(spans, number);
+    ExtensionAnswer {
+        refusal: 0,
+        place: 0,
+        start: x.start as u64,
+        size: x.size,
+        code: x.code,
+    }
+}
+
+pub fn voxel_reply(located: Located) -> Reply
+    ensures { λ a. ⌜ a ≡ voxelReply located ⌝ }
+{
+    match located {
+        Located::At(e) => Reply {
+            refusal: 0,
+            place: e.place,
+            length: e.length,
+        },
+        Located::Unlocated(r) => refused_reply(r),
+    }
+}
+
+fn slice_state(refusal: Refusal, state: u32, rank: u32, seconds: f32) -> SliceAnswer
+    ensures { λ a.
+        ⌜ a ≡ record { refusal = refusal .number; place = refusal .place; state = state; rank = rank; seconds = seconds } ⌝ }
+{
+    SliceAnswer {
+        refusal: refusal.number,
+        place: refusal.place as u64,
+        state,
+        rank,
+        seconds,
+    }
+}
+
+pub fn slice_answer(slice: Slice) -> SliceAnswer
+    ensures { λ a. ⌜ a ≡ sliceAnswer slice ⌝ }
+{
+    let done = Refusal {
+        number: 0,
+        place: 0,
+    };
+    match slice {
+        Slice::Refused(r) => slice_state(r, 0, 0, 0.0),
+        Slice::Unstated => slice_state(done, 0, 0, 0.0),
+        Slice::Padding => slice_state(done, 1, 0, 0.0),
+        Slice::Timed(rank, seconds) => slice_state(done, 2, rank as u32, seconds),
+    }
+}
+
+pub fn position_answer(positioned: Positioned) -> PositionAnswer
+    ensures { λ a. ⌜ a ≡ positionAnswer positioned ⌝ }
+{
+    match positioned {
+        Positioned::At(p) => PositionAnswer {
+            refusal: 0,
+            place: 0,
+            x: p.x,
+            y: p.y,
+            z: p.z,
+        },
+        Positioned::Refused(r) => PositionAnswer {
+            refusal: r.number,
+            place: r.place as u64,
+            x: 0.0,
+            y: 0.0,
+            z: 0.0,
+        },
+    }
+}
+
+pub fn swap_reply(verdict: Verdict) -> Reply
+    ensures { λ a. ⌜ a ≡ swapReply verdict ⌝ }
+{
+    match verdict {
+        Verdict::Accepted => Reply {
+            refusal: 0,
+            place: 0,
+            length: 0,
+        },
+        Verdict::Refused(r) => refused_reply(r),
+    }
+}
+
+pub fn edit_reply(edited: Edited) -> Reply
+    ensures { λ a. ⌜ a ≡ editReply edited ⌝ }
+{
+    match edited {
+        Edited::Done(file) => Reply {
+            refusal: 0,
+            place: 0,
+            length: file.length as u64,
+        },
+        Edited::Denied(r) => refused_reply(r),
+    }
+}
