@@ -1,5 +1,4 @@
 -- One law for each answer: the tests that lead to it. Where rules 17 and sform_code pass, the answer is what the crate affine places.
--- Assumes nothing.
 use mathlib.Core.Path.{_≡_, refl, sym, ap}
 use mathlib.Core.Bool.{Bool, true, false, not, cond, _&&_, _||_, and-true, and-eq-true-iff}
 use mathlib.Core.List.{List, [], _∷_}
@@ -11,30 +10,31 @@ use lib.IntN.{ℤ, pos}
 use lib.Signed.{leZ}
 use Rattle.refusal.specs.declared.Refusal.{Refusal}
 use Rattle.refusal.specs.declared.Verdict.the-variants.{Accepted, Refused as Breaks}
-use Rattle.refusal.specs.Table.{refusal, verdict}
+use Rattle.refusal.specs.Table.{refusal, verdict, decided}
+use Rattle.number.specs.Natural.{naturalOf}
 use Rattle.grid.specs.Grid.{within}
-use Rattle.grid.specs.Axes.{dimAt, extent}
+use Rattle.grid.specs.Axes.{dimAt}
 use Rattle.rules.specs.Rules.{axisCount}
 use Rattle.header.specs.declared.Header.{Header}
 use Rattle.reader.specs.Reading.{readingOf}
 use Rattle.affine.specs.declared.Position.{Position}
 use Rattle.affine.specs.declared.Placed.{Placed}
 use Rattle.affine.specs.declared.Placed.the-variants.{At as Located, NoPosition}
-use Rattle.affine.specs.Method.{placedAt, positionOf}
+use Rattle.affine.specs.Method.{finiteRows, finiteResults, positionOf}
 use Rattle.position.specs.declared.Positioned.{Positioned}
 use Rattle.position.specs.declared.Positioned.the-variants.{At, Refused}
-use Rattle.position.specs.Positions.{lengthAt, threeAxes, SmallIndex, resultsIn, finiteRows, finiteResults, positionedBy, positionIn, positionAt}
+use Rattle.position.specs.Positions.{lengthAt, threeAxes, SmallIndex, resultsIn, positionIn, positionAt}
 
 -- what affine places, as an answer
-abbrev pub answerOf : Placed → Positioned
-answerOf (Located p) = At p
-answerOf NoPosition = Refused (refusal 23 0)
+abbrev pub fromPlaced : Placed → Positioned
+fromPlaced (Located p) = At p
+fromPlaced NoPosition = Refused (refusal 23 0)
 
 abbrev pub placedIn : Header → ℕ → ℕ → ℕ → Placed
 placedIn h i j k = positionOf (h .rows .«srow_x») (h .rows .«srow_y») (h .rows .«srow_z») i j k
 
 -- ---- rule 17's axes and indexes
-pub length-stated : (dim : List ℤ) (axis : ℕ) → axis ≤ axisCount dim → extent (dimAt dim axis) ≡ lengthAt dim axis
+pub length-stated : (dim : List ℤ) (axis : ℕ) → axis ≤ axisCount dim → naturalOf (dimAt dim axis) ≡ lengthAt dim axis
 length-stated dim axis h = rw (le-leb axis (axisCount dim) h)
 
 pub length-past : (dim : List ℤ) (axis : ℕ) → axisCount dim < axis → 1 ≡ lengthAt dim axis
@@ -49,7 +49,11 @@ module _ (a b c i j k : ℕ) where
   small-index ha hb hc e =
       let p = and-eq-true-iff (ltb i a) (ltb j b && ltb k c) .0 e in
       let q = and-eq-true-iff (ltb j b) (ltb k c) .0 (p .1) in
-      record { first = omega (arith, ltb-true i a (p .0)); second = omega (arith, ltb-true j b (q .0)); third = omega (arith, ltb-true k c (q .1)) }
+      record {
+        first = omega (arith, ltb-true i a (p .0));
+        second = omega (arith, ltb-true j b (q .0));
+        third = omega (arith, ltb-true k c (q .1));
+      }
 
 -- ---- a record's answers
 module _ (h : Header) (i j k : ℕ) where
@@ -62,14 +66,18 @@ module _ (h : Header) (i j k : ℕ) where
     unfolding positionIn verdict
     position-unset e = simp (inside, e)
 
-    pub position-placed : leZ (h .quatern .«sform_code») (pos 0) ≡ false → answerOf (placedIn h i j k) ≡ positionIn h i j k
-    unfolding positionIn verdict positionOf placedAt
-    position-placed e = simp (inside, e) (go (finiteRows h) (finiteResults (resultsIn h i j k)) (resultsIn h i j k))
+    pub position-placed : leZ (h .quatern .«sform_code») (pos 0) ≡ false → fromPlaced (placedIn h i j k) ≡ positionIn h i j k
+    unfolding positionIn verdict positionOf
+    position-placed e =
+        let r = h .rows in
+        let p = resultsIn h i j k in
+        simp (inside, e) (go (not (finiteRows (r .«srow_x») (r .«srow_y») (r .«srow_z»)) || not (finiteResults p)) p)
       where
-        go : (f g : Bool) (p : Position) → answerOf (cond f (cond g (Located p) NoPosition) NoPosition) ≡ positionedBy (cond (not f || not g) (Breaks (refusal 23 0)) Accepted) p
-        go true true p = refl
-        go true false p = refl
-        go false g p = refl
+        go : (t : Bool) (p : Position)
+            → fromPlaced (decided (cond t (Breaks (refusal 23 0)) Accepted) (Located p) (λ r. NoPosition))
+            ≡ decided (cond t (Breaks (refusal 23 0)) Accepted) (At p) Refused
+        go true p = refl
+        go false p = refl
 
 -- ---- a file's answers
 module _ (file : List ℕ) (i j k : ℕ) where

@@ -1,12 +1,13 @@
--- What holds of every position: its three values are finite; and in the case that 01-scope.md states it is the exact whole number. Of a record,
--- and of every file by its record: `position_in` and `position_of` answer what the theorems speak of. Assumes nothing.
+-- What holds of every position: its three values are finite; and in the case that 01-scope.md states it is the exact whole number; and
+-- which numbers a refusal has. Of a record, and of every file by its record: `position_in` and `position_of` answer what the theorems
+-- speak of.
 use mathlib.Core.Path.{_≡_, refl, sym, ap, subst, _∙_}
-use mathlib.Core.Bool.{Bool, true, false, not, cond, _||_, and-eq-true-iff, false≢true}
+use mathlib.Core.Bool.{Bool, true, false, not, cond, _&&_, _||_, or-true, and-eq-true-iff}
 use mathlib.Core.List.{List, [], _∷_, _++_}
 use Prim.Native.Nat.{ℕ, suc, _+_, _-_, _≤_, _<_}
 use native.Mathlib.Omega.{arith}
-use borrow.Author.Tests.{ltb-true, ltb-false}
-use lib.Dec.{leb, ltb}
+use borrow.Author.Tests.{ltb-true, ltb-false, not-false}
+use lib.Dec.{leb, ltb, eqb}
 use lib.ListN.{length, getD, replicate, getD-replicate, List·getD-append}
 use lib.Seq.{getD-append-add}
 use lib.IntN.{ℤ, pos}
@@ -15,30 +16,33 @@ use lib.Ieee.Scale.{finite}
 use Rattle.field.specs.declared.Order.{Order}
 use Rattle.field.specs.declared.Order.the-variants.{Little}
 use Rattle.field.specs.Numbers.{u16At, i16sAt}
-use Rattle.refusal.specs.declared.Verdict.{Verdict}
-use Rattle.refusal.specs.declared.Verdict.the-variants.{Accepted, Refused as Breaks}
-use Rattle.refusal.specs.Table.{Row, verdict}
-use Rattle.refusal.proofs.Rows.{Clear, none, one, accepted-clear}
+use Rattle.refusal.specs.declared.Refusal.{Refusal}
+use Rattle.refusal.specs.Table.{verdict}
+use Rattle.refusal.proofs.Rows.{Clear, none, one, accepted-clear, decided-accepted, decided-refused, between, verdict-number}
+use Rattle.number.specs.Natural.{naturalOf}
+use Rattle.number.proofs.Naturals.{natural-half}
 use Rattle.extension.specs.Walk.{Walked, listed, stopped}
 use Rattle.grid.specs.Grid.{within}
-use Rattle.grid.specs.Axes.{dimAt, extent, axes, sevenAxes}
-use Rattle.grid.proofs.Entry.{half}
+use Rattle.grid.specs.Axes.{dimAt, axes, sevenAxes}
 use Rattle.grid.proofs.Axes.{length-axes, axes-at}
 use Rattle.grid.proofs.Voxels.{within-both}
 use Rattle.header.specs.declared.Header.{Header}
 use Rattle.header.specs.Fields.{headerOf}
 use Rattle.rules.specs.Rules.{axisCount}
-use Rattle.reader.specs.File.{orderOf, judgement}
-use Rattle.reader.specs.Reading.{readingBy, readingOf, IsAccepted}
+use Rattle.rules.proofs.Passed.{neither}
+use Rattle.layout.specs.File.{orderOf}
+use Rattle.reader.specs.Reading.{judgement, readingBy, readingOf, IsAccepted}
+use Rattle.reader.proofs.Theorems.{answered-number}
 use Rattle.affine.specs.declared.Position.{Position}
 use Rattle.affine.specs.declared.Placed.{Placed}
 use Rattle.affine.specs.declared.Placed.the-variants.{At as Located, NoPosition}
+use Rattle.affine.specs.Method.{finiteRows, finiteResults}
 use Rattle.affine.specs.Whole.{IsWhole, WholeRow, exactOf, PlacedExactly}
 use Rattle.affine.proofs.Theorems.{position-exact}
 use Rattle.position.specs.declared.Positioned.{Positioned}
 use Rattle.position.specs.declared.Positioned.the-variants.{At, Refused}
-use Rattle.position.specs.Positions.{lengthAt, threeAxes, resultsIn, finiteRows, positionRows, positionedBy, positionIn, answeredBy, positionAt}
-use Rattle.position.proofs.Answers.{answerOf, placedIn, length-stated, length-past, position-placed, file-answered}
+use Rattle.position.specs.Positions.{lengthAt, threeAxes, resultsIn, positionRows, positionIn, positionAt}
+use Rattle.position.proofs.Answers.{fromPlaced, placedIn, length-stated, length-past, position-placed, file-answered}
 
 -- ---- the stated case
 -- "the first three numbers of each row are whole and at most 64 in size, and its last is whole and at most 8,388,608 in size"
@@ -56,7 +60,7 @@ PositionedExactly (At p) x y z = IsWhole (p .x) x × IsWhole (p .y) y × IsWhole
 abbrev pub ExactAt : (h : Header) → WholeRows h → ℕ → ℕ → ℕ → Positioned → Type 0
 ExactAt h w i j k answer = PositionedExactly answer (exactOf (w .x) i j k) (exactOf (w .y) i j k) (exactOf (w .z) i j k)
 
-placed-exactly : (p : Placed) (x y z : ℤ) → PlacedExactly p x y z → PositionedExactly (answerOf p) x y z
+placed-exactly : (p : Placed) (x y z : ℤ) → PlacedExactly p x y z → PositionedExactly (fromPlaced p) x y z
 placed-exactly (Located p) x y z e = e
 placed-exactly NoPosition x y z e = absurd e
 
@@ -65,16 +69,17 @@ pub record Answered (h : Header) (i j k : ℕ) : Type 0 where
   pub inside : within (threeAxes (h .dim)) (i ∷ j ∷ k ∷ []) ≡ true
   pub above : leZ (h .quatern .«sform_code») (pos 0) ≡ false
 
-pub position-in-exact : (h : Header) (w : WholeRows h) (i j k : ℕ) → Answered h i j k → i < 32768 → j < 32768 → k < 32768 → ExactAt h w i j k (positionIn h i j k)
+pub position-in-exact : (h : Header) (w : WholeRows h) (i j k : ℕ) → Answered h i j k → i < 32768 → j < 32768 → k < 32768
+    → ExactAt h w i j k (positionIn h i j k)
 position-in-exact h w i j k a hi hj hk =
     subst (ExactAt h w i j k) (position-placed h i j k (a .inside) (a .above))
     (placed-exactly (placedIn h i j k) _ _ _ (position-exact (w .x) (w .y) (w .z) i j k hi hj hk))
 
 -- ---- the lengths of a file's axes
-axis-half : (dim : List ℤ) (axis : ℕ) → extent (dimAt dim axis) < 32768 → lengthAt dim axis < 32768
+axis-half : (dim : List ℤ) (axis : ℕ) → naturalOf (dimAt dim axis) < 32768 → lengthAt dim axis < 32768
 axis-half dim axis h = go (leb axis (axisCount dim))
   where
-    go : (t : Bool) → cond t (extent (dimAt dim axis)) 1 < 32768
+    go : (t : Bool) → cond t (naturalOf (dimAt dim axis)) 1 < 32768
     go true = h
     go false = omega arith
 
@@ -83,8 +88,11 @@ ThreeHalf dim = (lengthAt dim 1 < 32768) × (lengthAt dim 2 < 32768) × (lengthA
 
 read-half : (order : Order) (s : List ℕ) → ThreeHalf (i16sAt order s 40 8)
 read-half order s =
-    let dim = i16sAt order s 40 8 in
-    (axis-half dim 1 (half (u16At order s 42)), axis-half dim 2 (half (u16At order s 44)), axis-half dim 3 (half (u16At order s 46)))
+    let dim = i16sAt order s 40 8 in (
+      axis-half dim 1 (natural-half (u16At order s 42)),
+      axis-half dim 2 (natural-half (u16At order s 44)),
+      axis-half dim 3 (natural-half (u16At order s 46)),
+    )
 
 file-half : (file : List ℕ) → ThreeHalf (readingOf file .header .dim)
 unfolding readingOf headerOf
@@ -95,7 +103,8 @@ file-half file = go (judgement file)
     go (stopped r) = read-half Little []
 
 -- In the stated case every accepted file has a position for each index inside its axes, and it is the exact whole number.
-pub file-position-exact : (file : List ℕ) (w : WholeRows (readingOf file .header)) (i j k : ℕ) → IsAccepted file → Answered (readingOf file .header) i j k
+pub file-position-exact : (file : List ℕ) (w : WholeRows (readingOf file .header)) (i j k : ℕ)
+    → IsAccepted file → Answered (readingOf file .header) i j k
     → ExactAt (readingOf file .header) w i j k (positionAt file i j k)
 file-position-exact file w i j k e a =
     let h = readingOf file .header in
@@ -111,7 +120,8 @@ pub length-of-seven : (dim : List ℤ) (k : ℕ) → k < 7 → getD (sevenAxes d
 unfolding sevenAxes
 length-of-seven dim k h = go (ltb k (axisCount dim)) refl
   where
-    go : (t : Bool) → ltb k (axisCount dim) ≡ t → getD (axes dim (axisCount dim) ++ replicate (7 - axisCount dim) 1) k 0 ≡ lengthAt dim (suc k)
+    go : (t : Bool) → ltb k (axisCount dim) ≡ t
+        → getD (axes dim (axisCount dim) ++ replicate (7 - axisCount dim) 1) k 0 ≡ lengthAt dim (suc k)
     go true e =
         let n = axisCount dim in
         let l : k < n = ltb-true k n e in
@@ -127,34 +137,60 @@ length-of-seven dim k h = go (ltb k (axisCount dim)) refl
         ∙ length-past dim (suc k) (omega arith)
 
 -- ---- every position is finite
-positioned-is : (v : Verdict) (q p : Position) → positionedBy v q ≡ At p → (v ≡ Accepted) × (q ≡ p)
-positioned-is Accepted q p e = (refl, cc)
-positioned-is (Breaks r) q p e = let z : _≡_ {A = ℕ} 0 1 = cc in absurd (omega arith)
 
-second-clear : {a b : Row} → Clear (a ∷ b ∷ []) → b .test ≡ false
-second-clear (one e (one f none)) = f
-
-last-holds : (a b : Bool) → (a || not b) ≡ false → b ≡ true
-last-holds true b e = absurd (false≢true (sym e))
-last-holds false true e = refl
-last-holds false false e = sym e
+-- a position is not a refusal
+unpositioned-never {ℓ} : {A : Type ℓ} {r : Refusal} {p : Position} → Refused r ≡ At p → A
+unpositioned-never e = let z : _≡_ {A = ℕ} 0 1 = cc in absurd (omega arith)
 
 abbrev pub IsFinite : Position → Type 0
 IsFinite p = (finite (p .x) ≡ true) × (finite (p .y) ≡ true) × (finite (p .z) ≡ true)
 
+results-finite : (p : Position) → finiteResults p ≡ true → IsFinite p
+results-finite p e =
+    let two = and-eq-true-iff (finite (p .x) && finite (p .y)) (finite (p .z)) .0 e in
+    let one = and-eq-true-iff (finite (p .x)) (finite (p .y)) .0 (two .0) in
+    (one .0, one .1, two .1)
+
+rows-finite : (h : Header) (i j k : ℕ) → Clear (positionRows h i j k) → finiteResults (resultsIn h i j k) ≡ true
+rows-finite h i j k (one r17 (one r23 (one placed none))) =
+    let r = h .rows in
+    let p = resultsIn h i j k in
+    not-false (finiteResults p) (neither (not (finiteRows (r .«srow_x») (r .«srow_y») (r .«srow_z»))) (not (finiteResults p)) placed .1)
+
 pub position-in-finite : (h : Header) (i j k : ℕ) (p : Position) → positionIn h i j k ≡ At p → IsFinite p
 unfolding positionIn
 position-in-finite h i j k p e =
-    let r = positioned-is (verdict (positionRows h i j k)) (resultsIn h i j k) p e in
-    let all = last-holds (leZ (h .quatern .«sform_code») (pos 0) || not (finiteRows h)) _ (second-clear (accepted-clear (positionRows h i j k) (r .0))) in
-    subst IsFinite (r .1)
-    (let two = and-eq-true-iff _ _ .0 all in let one = and-eq-true-iff _ _ .0 (two .0) in (one .0, one .1, two .1))
-
-answered-is : (v : Verdict) (x : Positioned) (p : Position) → answeredBy v x ≡ At p → x ≡ At p
-answered-is Accepted x p e = e
-answered-is (Breaks r) x p e = let z : _≡_ {A = ℕ} 0 1 = cc in absurd (omega arith)
+    let d = decided-accepted (verdict (positionRows h i j k)) (λ r. unpositioned-never) e in
+    let same : resultsIn h i j k ≡ p = cc (d .1) in
+    subst IsFinite same (results-finite (resultsIn h i j k) (rows-finite h i j k (accepted-clear (positionRows h i j k) (d .0))))
 
 pub file-position-finite : (file : List ℕ) (i j k : ℕ) (p : Position) → positionAt file i j k ≡ At p → IsFinite p
 unfolding positionAt
 file-position-finite file i j k p e =
-    position-in-finite (readingOf file .header) i j k p (answered-is (readingOf file .verdict) (positionIn (readingOf file .header) i j k) p e)
+    let d = decided-accepted (readingOf file .verdict) (λ r. unpositioned-never) e in
+    position-in-finite (readingOf file .header) i j k p (d .1)
+
+-- ---- The numbers of the refusals
+
+refused-same : (q r : Refusal) → Refused q ≡ Refused r → q ≡ r
+refused-same q r e = cc
+
+-- of a record 17 and 23
+abbrev pub recordNumber : ℕ → Bool
+recordNumber n = eqb n 17 || eqb n 23
+
+pub position-in-number : (h : Header) (i j k : ℕ) (r : Refusal) → positionIn h i j k ≡ Refused r → recordNumber (r .number) ≡ true
+unfolding positionIn
+position-in-number h i j k r e =
+    let d = decided-refused (verdict (positionRows h i j k)) (λ x. unpositioned-never (sym x)) e in
+    rw (← refused-same (d .0) r (d .2)) (verdict-number recordNumber (positionRows h i j k) (d .0) refl (d .1))
+
+-- and of a file 1 to 15, 17 and 23
+abbrev pub positionNumber : ℕ → Bool
+positionNumber n = between 1 15 n || recordNumber n
+
+pub position-number : (file : List ℕ) (i j k : ℕ) (r : Refusal) → positionAt file i j k ≡ Refused r → positionNumber (r .number) ≡ true
+unfolding positionAt
+position-number file i j k r e =
+    answered-number positionNumber file r (λ n h. rw h) (λ q. refused-same q r)
+    (λ a d. rw (position-in-number (readingOf file .header) i j k r d) (or-true (between 1 15 (r .number)))) e

@@ -1,5 +1,5 @@
-// Positions, by a record and of a file: 01-scope.md, "Slices and positions", second paragraph. The binary32 arithmetic is that of
-// the crate affine; here stand rules 17 and 23, and which comes first.
+// Positions, by a record and of a file: 01-scope.md, "Slices and positions", second paragraph. The binary32 arithmetic
+// is that of the crate affine; here stand rules 17 and 23, and which comes first.
 ghost use mathlib.Core.Path.{_≡_};
 ghost use mathlib.Core.Bool.{true};
 ghost use mathlib.Core.List.{[], _∷_};
@@ -29,7 +29,7 @@ fn length_at(dim: &[i16], axis: usize) -> u64
     ensures { λ r. ⌜ (r ≡ lengthAt (now (dim .entry)) axis) × (r ≤ 32767) ⌝ }
 {
     if axis <= rules::axis_count(dim) {
-        grid::extent_of(dim, axis)
+        grid::axis_length(dim, axis)
     } else {
         1
     }

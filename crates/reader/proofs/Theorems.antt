@@ -1,7 +1,7 @@
 -- The reader's theorems, over the definitions that its promise cites (docs/PROMISES.md names each); `accepted-exactly` and what an
 -- accepted file is like stand in proofs/File.antt.
 use Prim.Native.Nat.{ℕ, _+_, _*_, _≤_, _<_}
-use mathlib.Core.Path.{_≡_, refl, sym, _∙_}
+use mathlib.Core.Path.{_≡_, refl, ap, sym, _∙_}
 use mathlib.Core.Bool.{Bool, true, false, cond, _&&_, and-false, and-eq-true-iff}
 use mathlib.Core.List.{List, []}
 use mathlib.Core.Logic.{_↔_}
@@ -113,3 +113,13 @@ module _ (s : List ℕ) where
       by : (w : Walked) → judgement s ≡ w → readingBy s w .verdict ≡ Refused r → between 1 15 (r .number) ≡ true
       by (listed xs) h d = refused-never (sym d)
       by (stopped q) h d = let p : q ≡ r = cc in rw (← p) (judged-number (verdict (fileRows s)) q refl h)
+
+-- What a call answers of a file, "1..15 first": its refusals have these numbers, and those that it gives by itself.
+module _ {ℓ} {A : Type ℓ} {a : A} {f : Refusal → A} (p : ℕ → Bool) (s : List ℕ) (r : Refusal) where
+  pub answered-number : ((n : ℕ) → between 1 15 n ≡ true → p n ≡ true) → ((q : Refusal) → f q ≡ f r → q ≡ r)
+      → (IsAccepted s → a ≡ f r → p (r .number) ≡ true) → decided (readingOf s .verdict) a f ≡ f r → p (r .number) ≡ true
+  answered-number wider same own e = by (readingOf s .verdict) refl e
+    where
+      by : (v : Verdict) → readingOf s .verdict ≡ v → decided v a f ≡ f r → p (r .number) ≡ true
+      by Accepted h d = own h d
+      by (Refused q) h d = wider (r .number) (reading-number s r (h ∙ ap Refused (same q d)))

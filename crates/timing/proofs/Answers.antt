@@ -1,4 +1,4 @@
--- What a record that states timing has, and one law for each answer: the tests that lead to it. Assumes nothing.
+-- What a record that states timing has, and one law for each answer: the tests that lead to it.
 use mathlib.Core.Path.{_≡_, refl, sym}
 use mathlib.Core.Bool.{Bool, true, false, not, cond, _&&_, _||_, and-eq-true-iff, false≢true}
 use mathlib.Core.List.{List}
@@ -13,22 +13,24 @@ use lib.Ieee.Scale.{finite}
 use Rattle.refusal.specs.declared.Refusal.{Refusal}
 use Rattle.refusal.specs.declared.Verdict.the-variants.{Accepted, Refused as Breaks}
 use Rattle.refusal.specs.Table.{refusal}
-use Rattle.grid.specs.Axes.{dimAt, extent}
+use Rattle.number.specs.Natural.{naturalOf}
+use Rattle.grid.specs.Axes.{dimAt}
 use Rattle.header.specs.declared.Header.{Header}
 use Rattle.rules.specs.Rules.{axisCount}
 use Rattle.reader.specs.Reading.{readingOf}
 use Rattle.slices.specs.declared.Time.the-variants.{Finite, Infinite}
 use Rattle.slices.specs.Times.{timeOf}
 use Rattle.timing.specs.declared.Slice.the-variants.{Refused, Unstated, Padding, Timed}
-use Rattle.timing.specs.Slices.{sliceAxis, acquires, isStated, sliceCount, firstSlice, lastSlice, rankAt, timeAt, firstOf, sliceIn, timedBy, sliceOf}
+use Rattle.timing.specs.Slices.{sliceAxis, acquires, isStated, sliceCount, firstSlice, lastSlice, rankAt, timeAt}
+use Rattle.timing.specs.Slices.{firstOf, sliceIn, timedBy, sliceOf}
 
-in-order : (a b c : ℤ) → acquires a b c ≡ true → (extent a < extent b) × (extent b < extent c)
+in-order : (a b c : ℤ) → acquires a b c ≡ true → (naturalOf a < naturalOf b) × (naturalOf b < naturalOf c)
 in-order (negsuc a) b c e = absurd (false≢true e)
 in-order (pos a) b c e =
     let p = and-eq-true-iff (leZ (pos 0) (pos a) && ltZ (pos a) b) (ltZ b c) .0 e in
     go b c (and-eq-true-iff (leZ (pos 0) (pos a)) (ltZ (pos a) b) .0 (p .0) .1) (p .1)
   where
-    go : (b c : ℤ) → ltZ (pos a) b ≡ true → ltZ b c ≡ true → (a < extent b) × (extent b < extent c)
+    go : (b c : ℤ) → ltZ (pos a) b ≡ true → ltZ b c ≡ true → (a < naturalOf b) × (naturalOf b < naturalOf c)
     go (negsuc b) c p q = absurd (false≢true p)
     go (pos b) (negsuc c) p q = absurd (false≢true q)
     go (pos b) (pos c) p q = (ltb-true a b p, ltb-true b c q)
@@ -46,9 +48,12 @@ stated-has h e =
     let a = leb 1 d && leb d 3 && leb d (axisCount (h .dim)) in
     let b = positive (ofBits binary32 (h .display .«slice_duration»)) in
     let c = leb 1 (h .scale .«slice_code») && leb (h .scale .«slice_code») 6 in
-    let three = and-eq-true-iff (a && b && c) (acquires (h .intent .«slice_start») (h .scale .«slice_end») (dimAt (h .dim) d)) .0 e in
+    let start = h .intent .«slice_start» in
+    let end = h .scale .«slice_end» in
+    let length = dimAt (h .dim) d in
+    let three = and-eq-true-iff (a && b && c) (acquires start end length) .0 e in
     let two = and-eq-true-iff (a && b) c .0 (three .0) in
-    let o = in-order (h .intent .«slice_start») (h .scale .«slice_end») (dimAt (h .dim) d) (three .1) in
+    let o = in-order start end length (three .1) in
     record { duration = and-eq-true-iff a b .0 (two .0) .1; several = o .0; inside = o .1 }
 
 -- a slice that is not padding
@@ -75,11 +80,13 @@ module _ (h : Header) (s : ℕ) where
       unfolding sliceIn firstOf
       slice-padding p = simp (stated, lt-leb (sliceCount h) s inside, p)
 
-      pub slice-acquired : (ltb s (firstSlice h) || ltb (lastSlice h) s) ≡ false → timedBy (rankAt h s) (timeOf (h .display .«slice_duration») (rankAt h s)) ≡ sliceIn h s
+      pub slice-acquired : (ltb s (firstSlice h) || ltb (lastSlice h) s) ≡ false
+          → timedBy (rankAt h s) (timeOf (h .display .«slice_duration») (rankAt h s)) ≡ sliceIn h s
       unfolding sliceIn firstOf timeOf
       slice-acquired p = simp (stated, lt-leb (sliceCount h) s inside, p) (go (finite (timeAt h s)))
         where
-          go : (t : Bool) → timedBy (rankAt h s) (cond t (Finite (timeAt h s)) Infinite) ≡ cond (not t) Unstated (Timed (rankAt h s) (timeAt h s))
+          go : (t : Bool)
+              → timedBy (rankAt h s) (cond t (Finite (timeAt h s)) Infinite) ≡ cond (not t) Unstated (Timed (rankAt h s) (timeAt h s))
           go true = refl
           go false = refl
 

@@ -1,5 +1,5 @@
--- 01-scope.md's worked numbers, computed: in document 004's setting, slices 1 to 5 of seven, the answers by ALT_INC and by ALT_DEC2 for the
--- slices 0 to 5. Assumes nothing.
+-- 01-scope.md's worked numbers, computed: in document 004's setting, slices 1 to 5 of seven, the answers by ALT_INC and by
+-- ALT_DEC2 for the slices 0 to 5.
 use mathlib.Core.Path.{_≡_, refl}
 use mathlib.Core.List.{List, [], _∷_, _++_, map}
 use Prim.Native.Nat.{ℕ}
@@ -12,8 +12,8 @@ use Rattle.grid.specs.Grid.{voxels}
 use Rattle.grid.specs.Axes.{firstBelow, axes, imageBytes}
 use Rattle.datatype.specs.Datatypes.{datatypeOf}
 use Rattle.offset.specs.Offset.{isWhole, wholeOf}
-use Rattle.reader.specs.File.{holdsIn, orderOf, hasMagic, kindOf, shapeIn, hasExtensions, hasNone, judgement}
-use Rattle.reader.specs.Reading.{readingOf}
+use Rattle.layout.specs.File.{holdsIn, orderOf, hasMagic, kindOf, shapeIn, hasExtensions, hasNone}
+use Rattle.reader.specs.Reading.{judgement, readingOf}
 use Rattle.slices.specs.Ranks.{orderIn, altRank, alt2Rank, rankOf}
 use Rattle.timing.specs.declared.Slice.{Slice}
 use Rattle.timing.specs.declared.Slice.the-variants.{Padding, Timed}
@@ -33,8 +33,13 @@ setting code =
 abbrev timed : ℕ → ℕ → Slice
 timed rank time = Timed rank (ofBits binary32 time)
 
-pub answers : map (sliceOf (setting 3)) (0 ∷ 1 ∷ 2 ∷ 3 ∷ 4 ∷ 5 ∷ []) ++ map (sliceOf (setting 6)) (0 ∷ 1 ∷ 2 ∷ 3 ∷ 4 ∷ 5 ∷ [])
+-- the slices 0 to 5 by a code
+abbrev answersBy : ℕ → List Slice
+answersBy code = map (sliceOf (setting code)) (0 ∷ 1 ∷ 2 ∷ 3 ∷ 4 ∷ 5 ∷ [])
+
+pub answers : answersBy 3 ++ answersBy 6
     ≡ Padding ∷ timed 0 0 ∷ timed 3 0x3e99_999a ∷ timed 1 0x3dcc_cccd ∷ timed 4 0x3ecc_cccd ∷ timed 2 0x3e4c_cccd
     ∷ Padding ∷ timed 4 0x3ecc_cccd ∷ timed 1 0x3dcc_cccd ∷ timed 3 0x3e99_999a ∷ timed 0 0 ∷ timed 2 0x3e4c_cccd ∷ []
-unfolding sliceOf readingOf judgement verdict holdsIn orderOf hasMagic kindOf shapeIn hasExtensions hasNone firstBelow axes imageBytes voxels datatypeOf isWhole wholeOf isStated firstOf sliceIn headerOf u16At u32At orderIn altRank alt2Rank rankOf ofBits ofInt mul lt
+unfolding sliceOf readingOf judgement verdict holdsIn orderOf hasMagic kindOf shapeIn hasExtensions hasNone firstBelow axes imageBytes voxels
+    datatypeOf isWhole wholeOf isStated firstOf sliceIn headerOf u16At u32At orderIn altRank alt2Rank rankOf ofBits ofInt mul lt
 answers = refl

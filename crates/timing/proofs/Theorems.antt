@@ -1,35 +1,36 @@
--- What holds of every slice answer: a timed one has a rank below the number of acquired slices, and a time that is finite and is the exact
--- product rounded once; a slice outside start..end is padding. Of a record, and of every file by its record: `slice_in` and `slice_at` answer
--- what the theorems speak of. Assumes nothing.
-use mathlib.Core.Path.{_≡_, refl, sym, ap, subst, _∙_}
+-- What holds of every slice answer: a timed one has a rank below the number of acquired slices, and a time that is finite and is the
+-- exact product rounded once; a slice outside start..end is padding; a refusal has one of the numbers that the paper gives. Of a
+-- record, and of every file by its record: `slice_in` and `slice_at` answer what the theorems speak of.
+use mathlib.Core.Path.{_≡_, refl, sym, ap, _∙_}
 use mathlib.Core.Bool.{Bool, true, false, cond, not, _||_, or-true, false≢true}
 use mathlib.Core.List.{List, []}
 use mathlib.Core.Logic.{_⊎_, inl, inr}
 use Prim.Native.Nat.{ℕ, _*_, _≤_, _<_}
 use native.Mathlib.Omega.{arith}
 use borrow.Author.Tests.{not-false, lt-ltb}
-use lib.Dec.{leb, ltb}
+use lib.Dec.{leb, ltb, eqb}
 use lib.Ieee.{Float, binary32, ofBits, round}
 use lib.Ieee.Positive.{num, den}
 use lib.Ieee.Scale.{finite}
 use Rattle.field.specs.declared.Order.the-variants.{Little}
 use Rattle.field.specs.Numbers.{u16At}
-use Rattle.refusal.specs.declared.Verdict.{Verdict}
-use Rattle.refusal.specs.declared.Verdict.the-variants.{Accepted, Refused as Breaks}
+use Rattle.refusal.specs.declared.Refusal.{Refusal}
+use Rattle.refusal.proofs.Rows.{decided-accepted, between}
+use Rattle.number.proofs.Naturals.{natural-half}
 use Rattle.extension.specs.Walk.{Walked, listed, stopped}
-use Rattle.grid.proofs.Entry.{half}
 use Rattle.header.specs.declared.Header.{Header}
 use Rattle.header.specs.Fields.{headerOf}
-use Rattle.reader.specs.File.{orderOf, judgement}
-use Rattle.reader.specs.Reading.{readingBy, readingOf, IsAccepted}
+use Rattle.layout.specs.File.{orderOf}
+use Rattle.reader.specs.Reading.{judgement, readingBy, readingOf, IsAccepted}
+use Rattle.reader.proofs.Theorems.{answered-number}
 use Rattle.slices.specs.declared.Time.the-variants.{Finite, Infinite}
 use Rattle.slices.specs.Ranks.{countOf}
-use Rattle.slices.specs.Times.{answerOf, timeOf}
+use Rattle.slices.specs.Times.{timeBy, timeOf}
 use Rattle.slices.proofs.RankLaws.{rank-below}
 use Rattle.slices.proofs.TimeLaws.{time-rounded-once}
 use Rattle.timing.specs.declared.Slice.{Slice}
 use Rattle.timing.specs.declared.Slice.the-variants.{Refused, Unstated, Padding, Timed}
-use Rattle.timing.specs.Slices.{isStated, sliceCount, firstSlice, lastSlice, rankAt, timeAt, firstOf, sliceIn, answeredBy, sliceOf}
+use Rattle.timing.specs.Slices.{isStated, sliceCount, firstSlice, lastSlice, rankAt, timeAt, firstOf, sliceIn, sliceOf}
 use Rattle.timing.proofs.Answers.{stated-has, acquired-within, slice-padding, file-answered}
 
 -- ---- the tests behind a timed answer
@@ -51,7 +52,7 @@ passed : (t : Bool) (x y z : Slice) → hasTime x ≡ false → hasTime z ≡ tr
 passed true x y z n m e = absurd (false≢true (sym n ∙ ap hasTime e ∙ m))
 passed false x y z n m e = (refl, e)
 
-finite-is : (x t : Float) → answerOf x ≡ Finite t → x ≡ t
+finite-is : (x t : Float) → timeBy x ≡ Finite t → x ≡ t
 finite-is x t = go (finite x)
   where
     go : (b : Bool) → cond b (Finite x) Infinite ≡ Finite t → x ≡ t
@@ -61,7 +62,8 @@ finite-is x t = go (finite x)
 -- "rank × slice_duration, rounded once": of the exact product, where num d / den d is the value of the duration d
 abbrev pub RoundedOnce : Header → ℕ → Float → Type 0
 RoundedOnce h r t =
-    t ≡ round binary32 false (r * num (ofBits binary32 (h .display .«slice_duration»))) (den (ofBits binary32 (h .display .«slice_duration»)))
+    let d = ofBits binary32 (h .display .«slice_duration») in
+    t ≡ round binary32 false (r * num d) (den d)
 
 -- ---- of a record
 module _ (h : Header) (s : ℕ) where
@@ -80,7 +82,7 @@ module _ (h : Header) (s : ℕ) where
     pub rank-below-count : r < countOf (firstSlice h) (lastSlice h)
     rank-below-count =
         let w = timed-is in
-        subst (λ n. n < countOf (firstSlice h) (lastSlice h)) (w .rank) (rank-below (h .scale .«slice_code») (firstSlice h) (lastSlice h) s (w .first) (w .last))
+        rw (← w .rank) (rank-below (h .scale .«slice_code») (firstSlice h) (lastSlice h) s (w .first) (w .last))
 
     -- slice_end is a number of 16 bits
     pub time-rounded : lastSlice h < 32768 → RoundedOnce h r t
@@ -88,9 +90,10 @@ module _ (h : Header) (s : ℕ) where
     time-rounded l =
         let w = timed-is in
         let d = h .display .«slice_duration» in
-        let answer : answerOf (timeAt h s) ≡ Finite t = rw (w .reached) (ap Finite (w .time)) in
+        let answer : timeBy (timeAt h s) ≡ Finite t = rw (w .reached) (ap Finite (w .time)) in
         let rank : timeOf d (rankAt h s) ≡ timeOf d r = ap (timeOf d) (w .rank) in
-        sym (finite-is _ t (sym (time-rounded-once d r (omega (arith, rank-below-count)) (stated-has h (w .stated) .duration)) ∙ sym rank ∙ answer))
+        let rounded = time-rounded-once d r (omega (arith, rank-below-count)) (stated-has h (w .stated) .duration) in
+        sym (finite-is _ t (sym rounded ∙ sym rank ∙ answer))
 
   pub outside-padding : isStated h ≡ true → s < sliceCount h → (s < firstSlice h) ⊎ (lastSlice h < s) → sliceIn h s ≡ Padding
   outside-padding e l (inl o) = sym (slice-padding h s e l (rw (lt-ltb s (firstSlice h) o)))
@@ -102,18 +105,14 @@ unfolding readingOf headerOf
 last-half file = go (judgement file)
   where
     go : (w : Walked) → lastSlice (readingBy file w .header) < 32768
-    go (listed xs) = half (u16At (orderOf file) file 120)
-    go (stopped r) = half (u16At Little [] 120)
-
-read-by : (v : Verdict) (x z : Slice) → hasTime z ≡ true → answeredBy v x ≡ z → x ≡ z
-read-by Accepted x z m e = e
-read-by (Breaks r) x z m e = absurd (false≢true (ap hasTime e ∙ m))
+    go (listed xs) = natural-half (u16At (orderOf file) file 120)
+    go (stopped r) = natural-half (u16At Little [] 120)
 
 module _ (file : List ℕ) (s : ℕ) where
   module _ (r : ℕ) (t : Float) (timed : sliceOf file s ≡ Timed r t) where
     record-timed : sliceIn (readingOf file .header) s ≡ Timed r t
     unfolding sliceOf
-    record-timed = read-by (readingOf file .verdict) (sliceIn (readingOf file .header) s) (Timed r t) refl timed
+    record-timed = decided-accepted (readingOf file .verdict) (λ q e. false≢true (ap hasTime e)) timed .1
 
     pub file-rank-below : r < countOf (firstSlice (readingOf file .header)) (lastSlice (readingOf file .header))
     file-rank-below = rank-below-count (readingOf file .header) s r t record-timed
@@ -130,3 +129,39 @@ module _ (file : List ℕ) (s : ℕ) where
       → (s < firstSlice (readingOf file .header)) ⊎ (lastSlice (readingOf file .header) < s)
       → sliceOf file s ≡ Padding
   file-padding a e l o = sym (file-answered file s a) ∙ outside-padding (readingOf file .header) s e l o
+
+-- ---- The numbers of the refusals
+
+refused-same : (q r : Refusal) → Refused q ≡ Refused r → q ≡ r
+refused-same q r e = cc
+
+-- a number, where the answer is a refusal
+abbrev numbered : (ℕ → Bool) → Slice → Bool
+numbered p (Refused r) = p (r .number)
+numbered p Unstated = true
+numbered p Padding = true
+numbered p (Timed r t) = true
+
+either-numbered : (p : ℕ → Bool) (t : Bool) (x y : Slice) → numbered p x ≡ true → numbered p y ≡ true → numbered p (cond t x y) ≡ true
+either-numbered p true x y a b = a
+either-numbered p false x y a b = b
+
+-- of a record 17 alone
+pub slice-in-number : (h : Header) (s : ℕ) (r : Refusal) → sliceIn h s ≡ Refused r → eqb (r .number) 17 ≡ true
+unfolding sliceIn firstOf
+slice-in-number h s r e =
+    sym (ap (numbered (λ n. eqb n 17)) e)
+    ∙ either-numbered (λ n. eqb n 17) (not (isStated h)) _ _ refl
+    (either-numbered (λ n. eqb n 17) (leb (sliceCount h) s) _ _ refl
+    (either-numbered (λ n. eqb n 17) (ltb s (firstSlice h) || ltb (lastSlice h) s) _ _ refl
+    (either-numbered (λ n. eqb n 17) (not (finite (timeAt h s))) _ _ refl refl)))
+
+-- and of a file 1 to 15 and 17
+abbrev pub sliceNumber : ℕ → Bool
+sliceNumber n = between 1 15 n || eqb n 17
+
+pub slice-number : (file : List ℕ) (s : ℕ) (r : Refusal) → sliceOf file s ≡ Refused r → sliceNumber (r .number) ≡ true
+unfolding sliceOf
+slice-number file s r e =
+    answered-number sliceNumber file r (λ n h. rw h) (λ q. refused-same q r)
+    (λ a d. rw (slice-in-number (readingOf file .header) s r d) (or-true (between 1 15 (r .number)))) e

@@ -8,10 +8,9 @@ use lib.Signed.{leZ, ltZ}
 use lib.Ieee.{Float, binary32, ofBits}
 use lib.Ieee.Positive.{positive}
 use lib.Ieee.Scale.{finite}
-use Rattle.refusal.specs.declared.Verdict.{Verdict}
-use Rattle.refusal.specs.declared.Verdict.the-variants.{Accepted, Refused as Breaks}
-use Rattle.refusal.specs.Table.{refusal}
-use Rattle.grid.specs.Axes.{dimAt, extent}
+use Rattle.refusal.specs.Table.{refusal, decided}
+use Rattle.number.specs.Natural.{naturalOf}
+use Rattle.grid.specs.Axes.{dimAt}
 use Rattle.header.specs.declared.Header.{Header}
 use Rattle.rules.specs.Rules.{axisCount}
 use Rattle.reader.specs.Reading.{readingOf}
@@ -44,13 +43,13 @@ isStated h =
 
 -- the length of the slices' axis, and the first and the last slice that were acquired
 abbrev pub sliceCount : Header → ℕ
-sliceCount h = extent (dimAt (h .dim) (sliceAxis h))
+sliceCount h = naturalOf (dimAt (h .dim) (sliceAxis h))
 
 abbrev pub firstSlice : Header → ℕ
-firstSlice h = extent (h .intent .«slice_start»)
+firstSlice h = naturalOf (h .intent .«slice_start»)
 
 abbrev pub lastSlice : Header → ℕ
-lastSlice h = extent (h .scale .«slice_end»)
+lastSlice h = naturalOf (h .scale .«slice_end»)
 
 -- a slice's rank, and its time: "rank × slice_duration, rounded once"
 abbrev pub rankAt : Header → ℕ → ℕ
@@ -92,9 +91,5 @@ timedBy rank (Finite t) = Timed rank t
 timedBy rank Infinite = Unstated
 
 -- "Slices and positions are asked of the file's bytes alone: 1..15 first, then as said below."
-abbrev pub answeredBy : Verdict → Slice → Slice
-answeredBy (Breaks r) answer = Refused r
-answeredBy Accepted answer = answer
-
 unfoldable pub sliceOf : List ℕ → ℕ → Slice
-sliceOf file s = answeredBy (readingOf file .verdict) (sliceIn (readingOf file .header) s)
+sliceOf file s = decided (readingOf file .verdict) (sliceIn (readingOf file .header) s) Refused

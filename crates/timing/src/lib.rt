@@ -1,11 +1,10 @@
-// Slice timing, of a record and of a file: 01-scope.md, "Slices and positions", first paragraph. How a rank and a time are
-// worked out is for the crate slices; here stand when timing is stated, and which answer comes before which.
+// Slice timing, of a record and of a file: 01-scope.md, "Slices and positions", first paragraph. How a rank and a time
+// are worked out is for the crate slices; here stand when timing is stated, and which answer comes before which.
 ghost use mathlib.Core.Path.{_≡_};
 ghost use mathlib.Core.Bool.{true};
 ghost use Prim.Native.Nat.{_≤_, _<_};
 ghost use lib.Ieee.{binary32, ofBits};
 ghost use lib.Ieee.Positive.{positive};
-ghost use Rattle.grid.specs.Axes.{extent};
 ghost use Rattle.slices.specs.Ranks.{rankIn};
 ghost use Rattle.slices.specs.Times.{timeOf};
 ghost use Rattle.timing.specs.Slices.{sliceDim, acquires, isStated, timedBy, sliceIn, sliceOf};
@@ -54,13 +53,6 @@ fn is_stated(header: Header) -> bool
         & acquires_in(intent.slice_start, scale.slice_end, dim[d])
 }
 
-// A signed number that is not negative as an unsigned one: 0 where it is negative.
-fn natural(z: i16) -> u16
-    ensures { λ r. ⌜ (r ≡ extent z) × (r ≤ 32767) ⌝ }
-{
-    if z < 0 { 0 } else { z as u16 }
-}
-
 // The answer for an acquired slice.
 fn timed(code: u8, start: u16, end: u16, duration: u32, s: u16) -> Slice
     requires { ⌜ (start ≤ s) × (s ≤ end) × (end ≤ 32766) × (positive (ofBits binary32 duration) ≡ true) ⌝ }
@@ -84,21 +76,21 @@ fn slice_stated(header: Header, s: u64) -> Slice
     let intent = header.intent;
     let scale = header.scale;
     let display = header.display;
-    if grid::extent_of(&dim, slice_dim(key.dim_info)) <= s {
+    if grid::axis_length(&dim, slice_dim(key.dim_info)) <= s {
         return Slice::Refused(Refusal {
             number: 17,
             place: 0,
         });
     }
-    let start = natural(intent.slice_start);
-    let end = natural(scale.slice_end);
-    if (s < (start as u64)) | ((end as u64) < s) {
+    let start = number::natural(intent.slice_start);
+    let end = number::natural(scale.slice_end);
+    if (s < start) | (end < s) {
         return Slice::Padding;
     }
     timed(
         scale.slice_code,
-        start,
-        end,
+        start as u16,
+        end as u16,
         display.slice_duration,
         s as u16,
     )

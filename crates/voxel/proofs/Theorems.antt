@@ -2,17 +2,19 @@
 use Prim.Native.Nat.{ℕ, _+_, _≤_, _<_}
 use mathlib.Core.Path.{_≡_, refl, ap, sym, subst, _∙_}
 use mathlib.Core.Logic.{_↔_}
-use mathlib.Core.Bool.{Bool, true, false, not}
-use mathlib.Core.List.{List, [], _∷_, _++_}
+use mathlib.Core.Bool.{Bool, true, false, not, _||_}
+use mathlib.Core.List.{List, [], _∷_}
 use native.Mathlib.Omega.{arith}
 use borrow.Author.Tests.{ltb-false}
+use lib.Dec.{eqb}
 use lib.IntN.{ℤ}
 use lib.ListN.{length, getD, take, drop, length-take, length-drop}
 use Rattle.field.specs.Numbers.{i16sAt}
 use Rattle.refusal.specs.declared.Refusal.{Refusal}
 use Rattle.refusal.specs.declared.Verdict.the-variants.{Accepted}
-use Rattle.refusal.specs.Table.{row, verdict}
-use Rattle.refusal.proofs.Rows.{none, one, clear-accepted}
+use Rattle.refusal.specs.Table.{Row, row, verdict, decided}
+use Rattle.refusal.proofs.Rows.{none, one, clear-accepted, decided-accepted, decided-refused}
+use Rattle.refusal.proofs.Rows.{between, between-wider, numbers, verdict-number}
 use Rattle.grid.specs.Grid.{within}
 use Rattle.grid.specs.Axes.{sevenAxes}
 use Rattle.grid.proofs.Axes.{image-seven, voxel-inside, seven-past}
@@ -22,67 +24,70 @@ use Rattle.header.specs.declared.Kind.{Kind}
 use Rattle.header.specs.declared.Kind.the-variants.{Single, Pair}
 use Rattle.rules.specs.declared.Shape.{Shape}
 use Rattle.rules.specs.declared.Image.{Image}
-use Rattle.rules.specs.Rules.{axisCount, imageOf, shapeOfRecord, recordRows}
-use Rattle.reader.specs.File.{orderOf, shapeIn, cutShort, imageCut, holder}
+use Rattle.rules.specs.Rules.{axisCount, imageOf, shapeOfRecord, cutShort, imageCut, holder}
+use Rattle.layout.specs.File.{orderOf, shapeIn}
 use Rattle.reader.specs.Reading.{readingOf, IsAccepted}
+use Rattle.reader.proofs.File.{accepted-shape, accepted-record, record-image, record-whole}
+use Rattle.reader.proofs.Theorems.{answered-number}
 use Rattle.voxel.specs.declared.Extent.{Extent}
 use Rattle.voxel.specs.declared.Located.{Located}
 use Rattle.voxel.specs.declared.Located.the-variants.{At, Unlocated}
-use Rattle.voxel.specs.Voxel.{lengthsOf, voxelBytes, imageRows, extentOf, locatedAfter, locatedIn, locatedOf, partOf, voxelOf}
+use Rattle.voxel.specs.Voxel.{lengthsOf, voxelBytes, imageRows, voxelRows, extentOf, locatedIn, locatedOf, partOf, voxelOf}
 use Rattle.voxel.proofs.Sized.{record-sized}
-use Rattle.voxel.proofs.Locating.{Found, found, after-at, passed-located}
-use Rattle.reader.proofs.Accepted.{accepted-shape, accepted-record}
-use Rattle.voxel.proofs.Accepted.{record-image, record-whole}
+use Rattle.voxel.proofs.Locating.{Found, found, unlocated-never, passed-located}
 use Rattle.voxel.proofs.Indexes.{index-seven}
 
 -- Of an accepted file 16 and 17 alone are still to be given.
 pub accepted-located : (file image index : List ℕ) → IsAccepted file
     → locatedOf file image index
-    ≡ locatedAfter (verdict (imageRows (readingOf file .header) (length image) index)) (At (extentOf (readingOf file .header) index))
+    ≡ decided (verdict (imageRows (readingOf file .header) (length image) index)) (At (extentOf (readingOf file .header) index)) Unlocated
 unfolding locatedOf
-accepted-located file image index a = rw a (passed-located (readingOf file .header) (length image) index (accepted-record file a))
+accepted-located file image index a =
+    rw a (passed-located (readingOf file .header) (length image) index (accepted-record file a))
 
 -- a voxel of a record that is located: its bytes are bytes of the image
-extent-inside : (h : Header) (len : ℕ) (index : List ℕ) (e : Extent) → Found h len index e
-    → (imageOf (shapeOfRecord h) .offset ≤ e .place) × (e .place + e .length ≤ imageOf (shapeOfRecord h) .offset + imageOf (shapeOfRecord h) .bytes)
+abbrev pub Inside : Extent → Image → Type 0
+Inside e i = (i .offset ≤ e .place) × (e .place + e .length ≤ i .offset + i .bytes)
+
+extent-inside : (h : Header) (len : ℕ) (index : List ℕ) (e : Extent) → Found h len index e → Inside e (imageOf (shapeOfRecord h))
 extent-inside h len index e f =
     let r = voxel-inside (h .dim) (axisCount (h .dim)) (voxelBytes h) index (f .inside) in
     rw (← f .is) (omega arith, omega (arith, r))
 
 -- the file that holds a whole image
-image-held : (kind : Kind) (i : Image) (file image : List ℕ) → cutShort kind (length file) i ≡ false → imageCut kind (length image) i ≡ false
-    → i .offset + i .bytes ≤ length (holder kind file image)
+image-held : (kind : Kind) (i : Image) (file image : List ℕ) → cutShort kind (length file) i ≡ false
+    → imageCut kind (length image) i ≡ false → i .offset + i .bytes ≤ length (holder kind file image)
 image-held Single i file image s p = ltb-false (length file) (i .offset + i .bytes) s
 image-held Pair i file image s p = ltb-false (length image) (i .offset + i .bytes) p
 
 module _ (file image index : List ℕ) (e : Extent) (at : locatedOf file image index ≡ At e) where
   pub located-both : IsAccepted file × (locatedIn (readingOf file .header) (length image) index ≡ At e)
   unfolding locatedOf
-  located-both = after-at (readingOf file .verdict) (locatedIn (readingOf file .header) (length image) index) e at
+  located-both = decided-accepted (readingOf file .verdict) (λ r. unlocated-never) at
 
   pub file-found : Found (readingOf file .header) (length image) index e
   file-found = found (readingOf file .header) (length image) index e (located-both .1)
 
   -- A voxel's bytes lie inside the image,
-  pub voxel-in-image : (readingOf file .image .offset ≤ e .place) × (e .place + e .length ≤ readingOf file .image .offset + readingOf file .image .bytes)
-  voxel-in-image = rw (← record-image file (located-both .0)) (extent-inside (readingOf file .header) (length image) index e file-found)
+  pub voxel-in-image : Inside e (readingOf file .image)
+  voxel-in-image =
+      rw (← record-image file (located-both .0)) (extent-inside (readingOf file .header) (length image) index e file-found)
 
   -- and so inside the file that holds it,
   pub voxel-in-file : e .place + e .length ≤ length (holder (readingOf file .header .kind) file image)
   voxel-in-file =
       let h = readingOf file .header in
-      omega (
-        arith,
-        extent-inside h (length image) index e file-found,
-        image-held (h .kind) (imageOf (shapeOfRecord h)) file image (record-whole file (located-both .0)) (file-found .whole),
-      )
+      let i = imageOf (shapeOfRecord h) in
+      let held = image-held (h .kind) i file image (record-whole file (located-both .0)) (file-found .whole) in
+      omega (arith, extent-inside h (length image) index e file-found, held)
 
   -- there are some,
   pub voxel-some : 1 ≤ e .length
   voxel-some = rw (← file-found .is) (record-sized (readingOf file .header) (file-found .rules) .some)
 
   -- and these are handed back.
-  pub voxel-bytes-are : voxelOf file image index ≡ take (e .length) (drop (e .place) (holder (readingOf file .header .kind) file image))
+  pub voxel-bytes-are : voxelOf file image index
+      ≡ take (e .length) (drop (e .place) (holder (readingOf file .header .kind) file image))
   unfolding voxelOf
   voxel-bytes-are = rw at
 
@@ -114,12 +119,14 @@ pub refused-empty : (file image index : List ℕ) (r : Refusal) → locatedOf fi
 unfolding voxelOf
 refused-empty file image index r e = rw e
 
-pub voxel-empty : (file image index : List ℕ) → (voxelOf file image index ≡ []) ↔ ((r : Refusal) × (locatedOf file image index ≡ Unlocated r))
+pub voxel-empty : (file image index : List ℕ)
+    → (voxelOf file image index ≡ []) ↔ ((r : Refusal) × (locatedOf file image index ≡ Unlocated r))
 voxel-empty file image index = (by (locatedOf file image index) refl, λ p. refused-empty file image index (p .0) (p .1))
   where
-    by : (l : Located) → locatedOf file image index ≡ l → voxelOf file image index ≡ [] → (r : Refusal) × (locatedOf file image index ≡ Unlocated r)
+    by : (l : Located) → locatedOf file image index ≡ l → voxelOf file image index ≡ []
+        → (r : Refusal) × (locatedOf file image index ≡ Unlocated r)
     by (Unlocated r) d z = (r, d)
-    by (At e) d z = let no : ⊥ = omega (arith, voxel-some file image index e d, voxel-length file image index e d, ap length z) in absurd no
+    by (At e) d z = absurd (omega (arith, voxel-some file image index e d, voxel-length file image index e d, ap length z))
 
 -- The bytes of two voxels never meet: a byte is in one voxel, and at one place of it.
 pub voxels-apart : (file image is js : List ℕ) (d e : Extent) → locatedOf file image is ≡ At d → locatedOf file image js ≡ At e
@@ -132,10 +139,12 @@ voxels-apart file image is js d e at bt o p below under same =
     let el = ap (λ (x : Extent). x .length) (g .is) in
     let dp = ap (λ (x : Extent). x .place) (f .is) in
     let ep = ap (λ (x : Extent). x .place) (g .is) in
-    byte-one (lengthsOf h) is js (voxelBytes h) (imageOf (shapeOfRecord h) .offset) o p (f .inside) (g .inside) (omega arith) (omega arith) (omega arith)
+    let at = imageOf (shapeOfRecord h) .offset in
+    byte-one (lengthsOf h) is js (voxelBytes h) at o p (f .inside) (g .inside) (omega arith) (omega arith) (omega arith)
 
 -- An index inside its axes is located, where the image is there;
-module _ (file image : List ℕ) (a : IsAccepted file) (whole : imageCut (readingOf file .header .kind) (length image) (readingOf file .image) ≡ false) where
+module _ (file image : List ℕ) (a : IsAccepted file)
+    (whole : imageCut (readingOf file .header .kind) (length image) (readingOf file .image) ≡ false) where
   pub index-located : (index : List ℕ) → within (lengthsOf (readingOf file .header)) index ≡ true
       → locatedOf file image index ≡ At (extentOf (readingOf file .header) index)
   index-located index inside =
@@ -146,7 +155,8 @@ module _ (file image : List ℕ) (a : IsAccepted file) (whole : imageCut (readin
       accepted-located file image index a ∙ rw v
 
   -- and so each byte of it is in a voxel, and in exactly one.
-  pub byte-located : (x : ℕ) → readingOf file .image .offset ≤ x → x < readingOf file .image .offset + readingOf file .image .bytes
+  pub byte-located : (x : ℕ) → readingOf file .image .offset ≤ x
+      → x < readingOf file .image .offset + readingOf file .image .bytes
       → (index : List ℕ) × (e : Extent) × (o : ℕ) × (locatedOf file image index ≡ At e) × (o < e .length) × (e .place + o ≡ x)
   byte-located x from upto =
       let h = readingOf file .header in
@@ -167,10 +177,61 @@ module _ (file a b index : List ℕ) (single : readingOf file .header .kind ≡ 
       let i : Image = imageOf (shapeOfRecord h) in
       let e : imageCut (h .kind) (length a) i ≡ imageCut (h .kind) (length b) i =
       ap (λ (k : Kind). imageCut k (length a) i) single ∙ sym (ap (λ (k : Kind). imageCut k (length b) i) single) in
-      ap (λ (t : Bool). locatedAfter (readingOf file .verdict) (locatedAfter (verdict (recordRows h ++ (row 16 t 0 ∷ row 17 (not (within (lengthsOf h) index)) 0 ∷ []))) (At (extentOf h index)))) e
+      rw e
 
   pub single-voxel : voxelOf file a index ≡ voxelOf file b index
   unfolding voxelOf
   single-voxel =
       (λ i. partOf (single-located i) (holder (single i) file a))
       ∙ sym (λ i. partOf (locatedOf file b index) (holder (single i) file b))
+
+-- ---- The numbers of the refusals
+
+unlocated-same : (q r : Refusal) → Unlocated q ≡ Unlocated r → q ≡ r
+unlocated-same q r e = cc
+
+-- of a record: its own rules, 16 and 17
+abbrev pub recordNumber : ℕ → Bool
+recordNumber n = eqb n 2 || between 5 10 n || eqb n 16 || eqb n 17
+
+rows-number : (p : ℕ → Bool) (rows : List Row) (e : Extent) (r : Refusal) → numbers p rows ≡ true
+    → decided (verdict rows) (At e) Unlocated ≡ Unlocated r → p (r .number) ≡ true
+rows-number p rows e r n d =
+    let q = decided-refused (verdict rows) (λ x. unlocated-never (sym x)) d in
+    rw (← unlocated-same (q .0) r (q .2)) (verdict-number p rows (q .0) n (q .1))
+
+pub located-in-number : (h : Header) (len : ℕ) (index : List ℕ) (r : Refusal) → locatedIn h len index ≡ Unlocated r
+    → recordNumber (r .number) ≡ true
+unfolding locatedIn
+located-in-number h len index r e = rows-number recordNumber (voxelRows h len index) (extentOf h index) r refl e
+
+-- of files: 1 to 15, 16 and 17
+pub located-number : (file image index : List ℕ) (r : Refusal) → locatedOf file image index ≡ Unlocated r
+    → between 1 17 (r .number) ≡ true
+unfolding locatedOf locatedIn
+located-number file image index r e =
+    let h = readingOf file .header in
+    answered-number (between 1 17) file r (λ n. between-wider 1 15 1 17 n refl) (λ q. unlocated-same q r)
+    (λ a. rows-number (between 1 17) (voxelRows h (length image) index) (extentOf h index) r refl) e
+
+-- and of a single file never 16
+abbrev pub singleNumber : ℕ → Bool
+singleNumber n = between 1 15 n || eqb n 17
+
+-- of the image's rows 17 is left
+single-rows : (h : Header) (len : ℕ) (index : List ℕ) → h .kind ≡ Single
+    → verdict (imageRows h len index) ≡ verdict (row 17 (not (within (lengthsOf h) index)) 0 ∷ [])
+unfolding verdict
+single-rows h len index single = rw single
+
+pub single-no-16 : (file image index : List ℕ) (r : Refusal) → readingOf file .header .kind ≡ Single
+    → locatedOf file image index ≡ Unlocated r → singleNumber (r .number) ≡ true
+unfolding locatedOf
+single-no-16 file image index r single e = answered-number singleNumber file r (λ n h. rw h) (λ q. unlocated-same q r) own e
+  where
+    own : IsAccepted file → locatedIn (readingOf file .header) (length image) index ≡ Unlocated r → singleNumber (r .number) ≡ true
+    own a d =
+        let h = readingOf file .header in
+        let l = passed-located h (length image) index (accepted-record file a) in
+        rows-number singleNumber (row 17 (not (within (lengthsOf h) index)) 0 ∷ []) (extentOf h index) r refl
+        (rw (single-rows h (length image) index single) at (sym l ∙ d))

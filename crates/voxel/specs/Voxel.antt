@@ -3,15 +3,13 @@ use Prim.Native.Nat.{ℕ, _+_, _*_, _/_}
 use mathlib.Core.Bool.{not}
 use mathlib.Core.List.{List, [], _∷_, _++_}
 use lib.ListN.{length, take, drop}
-use Rattle.refusal.specs.declared.Verdict.{Verdict}
-use Rattle.refusal.specs.declared.Verdict.the-variants.{Accepted, Refused}
-use Rattle.refusal.specs.Table.{Row, row, verdict}
+use Rattle.refusal.specs.Table.{Row, row, verdict, decided}
+use Rattle.number.specs.Natural.{naturalOf}
 use Rattle.offset.specs.Offset.{wholeOf}
-use Rattle.grid.specs.Grid.{within, rank}
-use Rattle.grid.specs.Axes.{extent, sevenAxes}
+use Rattle.grid.specs.Grid.{within, voxelNumber}
+use Rattle.grid.specs.Axes.{sevenAxes}
 use Rattle.header.specs.declared.Header.{Header}
-use Rattle.rules.specs.Rules.{axisCount, imageOf, shapeOfRecord, recordRows}
-use Rattle.reader.specs.File.{imageCut, holder}
+use Rattle.rules.specs.Rules.{axisCount, imageOf, shapeOfRecord, recordRows, imageCut, holder}
 use Rattle.reader.specs.Reading.{readingOf}
 use Rattle.voxel.specs.declared.Extent.{Extent}
 use Rattle.voxel.specs.declared.Located.{Located}
@@ -23,7 +21,7 @@ lengthsOf h = sevenAxes (h .dim) (axisCount (h .dim))
 
 -- the bytes of a voxel, bitpix / 8
 abbrev pub voxelBytes : Header → ℕ
-voxelBytes h = extent (h .intent .bitpix) / 8
+voxelBytes h = naturalOf (h .intent .bitpix) / 8
 
 -- 16, and then 17: an index outside its axis
 abbrev pub imageRows : Header → ℕ → List ℕ → List Row
@@ -41,21 +39,19 @@ voxelRows h len index = recordRows h ++ imageRows h len index
 abbrev pub extentOf : Header → List ℕ → Extent
 extentOf h index =
     record {
-      place = wholeOf (h .scale .«vox_offset») + voxelBytes h * rank (lengthsOf h) index;
+      place = wholeOf (h .scale .«vox_offset») + voxelBytes h * voxelNumber (lengthsOf h) index;
       length = voxelBytes h;
     }
 
-abbrev pub locatedAfter : Verdict → Located → Located
-locatedAfter Accepted l = l
-locatedAfter (Refused r) l = Unlocated r
-
 -- "One call answers the place and length, or the refusal": of a record that was read before,
 unfoldable pub locatedIn : Header → ℕ → List ℕ → Located
-locatedIn h len index = locatedAfter (verdict (voxelRows h len index)) (At (extentOf h index))
+locatedIn h len index = decided (verdict (voxelRows h len index)) (At (extentOf h index)) Unlocated
 
 -- and of files: 1..15 first
 unfoldable pub locatedOf : List ℕ → List ℕ → List ℕ → Located
-locatedOf file image index = locatedAfter (readingOf file .verdict) (locatedIn (readingOf file .header) (length image) index)
+locatedOf file image index =
+    let h = readingOf file .header in
+    decided (readingOf file .verdict) (locatedIn h (length image) index) Unlocated
 
 abbrev pub partOf : Located → List ℕ → List ℕ
 partOf (At e) l = take (e .length) (drop (e .place) l)

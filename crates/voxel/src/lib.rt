@@ -1,13 +1,12 @@
-// Where a voxel's bytes are, and the bytes themselves (01-scope.md, "Voxels and byte order", rules 16 and 17). An index is seven
-// numbers, and any unsigned number is taken.
+// Where a voxel's bytes are, and the bytes themselves (01-scope.md, "Voxels and byte order", rules 16 and 17). An index
+// is seven numbers, and any unsigned number is taken.
 ghost use mathlib.Core.Path.{_≡_};
 ghost use mathlib.Core.List.{[], _∷_};
-ghost use Prim.Native.Nat.{_+_, _/_, _≤_};
+ghost use Prim.Native.Nat.{_+_, _≤_};
 ghost use lib.ListN.{length, take, drop};
-ghost use Rattle.grid.specs.Axes.{extent};
-ghost use Rattle.rules.specs.Rules.{recordJudged};
-ghost use Rattle.reader.specs.File.{holder};
-ghost use Rattle.voxel.specs.Voxel.{locatedIn, locatedAfter, locatedOf, voxelOf};
+ghost use Rattle.refusal.specs.Table.{decided};
+ghost use Rattle.rules.specs.Rules.{recordJudged, holder};
+ghost use Rattle.voxel.specs.Voxel.{locatedIn, locatedOf, voxelOf};
 use header::Header;
 use header::Kind;
 use reader::Reading;
@@ -33,20 +32,13 @@ fn unlocated(number: u64, place: usize) -> Located
     Located::Unlocated(Refusal { number, place })
 }
 
-// The bytes of a voxel, as bitpix states them.
-fn voxel_bytes(bitpix: i16) -> u64
-    ensures { λ r. ⌜ r ≡ extent bitpix / 8 ⌝ }
-{
-    if bitpix < 0 { 0 } else { bitpix as u64 / 8 }
-}
-
 // Rules 16 and 17 of a record that the rules before them pass, and the voxel's place.
 fn locate_at(header: Header, image: Image, len: usize, index: [u64; 7]) -> Located
     requires { ⌜ recordJudged header ≡ Judged.Passed image ⌝ }
     ensures { λ r. ⌜ r ≡ locatedIn header len index ⌝ }
 {
     let kind = header.kind;
-    if reader::image_cut(kind, len, image) {
+    if rules::image_cut(kind, len, image) {
         return unlocated(16, 0);
     }
     let dim = header.dim;
@@ -55,9 +47,10 @@ fn locate_at(header: Header, image: Image, len: usize, index: [u64; 7]) -> Locat
     if !grid::is_within(lengths, index) {
         return unlocated(17, 0);
     }
+    // The bytes of a voxel, as bitpix states them.
     let intent = header.intent;
-    let bytes = voxel_bytes(intent.bitpix);
-    let before = grid::rank_of(lengths, index);
+    let bytes = number::natural(intent.bitpix) / 8;
+    let before = grid::voxel_number(lengths, index);
     Located::At(Extent {
         place: image.offset + bytes * before,
         length: bytes,
@@ -93,7 +86,7 @@ pub fn locate_in(
 
 // The voxel of a file that has this reading.
 fn locate_read(reading: Reading, len: usize, index: [u64; 7]) -> Located
-    ensures { λ r. ⌜ r ≡ locatedAfter (reading .verdict) (locatedIn (reading .header) len index) ⌝ }
+    ensures { λ r. ⌜ r ≡ decided (reading .verdict) (locatedIn (reading .header) len index) Located.Unlocated ⌝ }
 {
     let verdict = reading.verdict;
     match verdict {
@@ -117,7 +110,8 @@ pub fn locate(
     i6: u64,
     i7: u64,
 ) -> Located
-    ensures { λ r. ⌜ r ≡ locatedOf (now (file .entry)) (now (image .entry)) (i1 ∷ i2 ∷ i3 ∷ i4 ∷ i5 ∷ i6 ∷ i7 ∷ []) ⌝ }
+    ensures { λ r.
+        ⌜ r ≡ locatedOf (now (file .entry)) (now (image .entry)) (i1 ∷ i2 ∷ i3 ∷ i4 ∷ i5 ∷ i6 ∷ i7 ∷ []) ⌝ }
 {
     locate_read(
         reader::read(file),
@@ -155,7 +149,8 @@ pub fn voxel<'a>(
     i6: u64,
     i7: u64,
 ) -> &'a [u8]
-    ensures { λ r. ⌜ now r ≡ voxelOf (now (file .entry)) (now (image .entry)) (i1 ∷ i2 ∷ i3 ∷ i4 ∷ i5 ∷ i6 ∷ i7 ∷ []) ⌝ }
+    ensures { λ r.
+        ⌜ now r ≡ voxelOf (now (file .entry)) (now (image .entry)) (i1 ∷ i2 ∷ i3 ∷ i4 ∷ i5 ∷ i6 ∷ i7 ∷ []) ⌝ }
 {
     let reading = reader::read(file);
     let located = locate_read(reading, image.len(), [i1, i2, i3, i4, i5, i6, i7]);

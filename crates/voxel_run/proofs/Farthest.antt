@@ -6,18 +6,20 @@ use native.Mathlib.Numerals.{add-one}
 use Rattle.refusal.specs.declared.Refusal.{Refusal}
 use Rattle.refusal.specs.declared.Verdict.{Verdict}
 use Rattle.refusal.specs.declared.Verdict.the-variants.{Refused}
+use Rattle.refusal.specs.Table.{decided}
 use Rattle.reader.specs.Reading.{readingOf, IsAccepted}
 use Rattle.voxel.specs.declared.Located.{Located}
 use Rattle.voxel.specs.declared.Located.the-variants.{Unlocated}
-use Rattle.voxel.specs.Voxel.{locatedAfter, locatedIn, locatedOf}
+use Rattle.voxel.specs.Voxel.{locatedIn, locatedOf}
 use Rattle.voxel_run.specs.Farthest.{placeOf, along, most, farthestIn, farthest}
 
 pub most-none : (f : ℕ → Located) → most f 0 ≡ 0
 unfolding most
 most-none f = refl
 
--- a turn of either loop: the voxel is located, its place taken, and the larger kept
-pub most-next : (f : ℕ → Located) (k : ℕ) {m p r : ℕ} {l : Located} → m ≡ most f k → l ≡ f k → p ≡ placeOf l → r ≡ max m p → r ≡ most f (k + 1)
+-- a turn of either loop: the voxel is located, its place taken, and the greater kept
+pub most-next : (f : ℕ → Located) (k : ℕ) {m p r : ℕ} {l : Located}
+    → m ≡ most f k → l ≡ f k → p ≡ placeOf l → r ≡ max m p → r ≡ most f (k + 1)
 unfolding most
 most-next f k e d p r = rw add-one cc
 
@@ -26,10 +28,14 @@ unfolding most
 most-refused r zero = refl
 most-refused r (suc n) = rw (most-refused r n)
 
+-- voxel k of axis 1 by a file's reading
+abbrev byRecord : List ℕ → Verdict → ℕ → Located
+byRecord s v k = decided v (locatedIn (readingOf s .header) 0 (along k)) Unlocated
+
 module _ (s : List ℕ) (n : ℕ) where
-  by-verdict : (v : Verdict) → readingOf s .verdict ≡ v → farthest s n ≡ most (λ k. locatedAfter v (locatedIn (readingOf s .header) 0 (along k))) n
+  by-verdict : (v : Verdict) → readingOf s .verdict ≡ v → farthest s n ≡ most (byRecord s v) n
   unfolding locatedOf
-  by-verdict v e = ap (λ (v : Verdict). most (λ k. locatedAfter v (locatedIn (readingOf s .header) 0 (along k))) n) e
+  by-verdict v e = ap (λ (v : Verdict). most (byRecord s v) n) e
 
   pub farthest-refused : (r : Refusal) → readingOf s .verdict ≡ Refused r → farthest s n ≡ 0
   farthest-refused r e = by-verdict (Refused r) e ∙ most-refused r n

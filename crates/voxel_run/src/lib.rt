@@ -1,37 +1,31 @@
-// The first voxels of axis 1, located one after the other: by the record of one reading, and by the file, which is read for each
-// (01-scope.md, "Voxels and byte order": "One call answers the place and length, or the refusal"). Made for the benchmark, whose
-// two rows so answer the same number.
+// The first voxels of axis 1, located one after the other: by the record of one reading, and by the file, which is read
+// for each (01-scope.md, "Voxels and byte order": "One call answers the place and length, or the refusal"). Made for the
+// benchmark, whose two rows so answer the same number.
 ghost use mathlib.Core.Path.{_≡_};
-ghost use Prim.Native.Nat.{max};
 ghost use Rattle.voxel_run.specs.Farthest.{placeOf, farthestIn, farthest};
 use header::Header;
 use refusal::Verdict;
 use voxel::Located;
 
-fn place_of(located: Located) -> u64
+// A voxel's place, and 0 where it is refused.
+fn place_of(located: Located) -> usize
     ensures { λ r. ⌜ r ≡ placeOf located ⌝ }
 {
     match located {
-        Located::At(e) => e.place,
+        Located::At(e) => e.place as usize,
         Located::Unlocated(_) => 0,
     }
 }
 
-fn larger(a: u64, b: u64) -> u64
-    ensures { λ r. ⌜ r ≡ max a b ⌝ }
-{
-    if a < b { b } else { a }
-}
-
 // By a record that was read before.
-fn run_in(header: Header, count: u64) -> u64
+fn run_in(header: Header, count: u64) -> usize
     ensures { λ r. ⌜ r ≡ farthestIn header count ⌝ }
 {
     let mut most = 0;
     let mut k = 0;
     while k < count {
         let located = voxel::locate_in(header, 0, k, 0, 0, 0, 0, 0, 0);
-        most = larger(most, place_of(located));
+        most = number::greater(most, place_of(located));
         k += 1;
     }
     most
@@ -48,7 +42,7 @@ pub extern "C" fn voxel_run_by_record(file: &[u8], count: u64) -> u64
         Verdict::Refused(_) => 0,
         Verdict::Accepted => {
             let header = reading.header;
-            run_in(header, count)
+            run_in(header, count) as u64
         }
     }
 }
@@ -63,8 +57,8 @@ pub extern "C" fn voxel_run_by_file(file: &[u8], count: u64) -> u64
     let mut k = 0;
     while k < count {
         let located = voxel::locate(file, &none, k, 0, 0, 0, 0, 0, 0);
-        most = larger(most, place_of(located));
+        most = number::greater(most, place_of(located));
         k += 1;
     }
-    most
+    most as u64
 }

@@ -23,10 +23,12 @@ returns c =
     let third = c .length-at3 in
     let second = c .before .length-at2 in
     let first = c .before .before .length-at in
-    let a = c .before .before .before .args in (
+    let a = c .before .before .before .args in
+    let l = lengthAt (now (a .dim)) in (
       (λ n. ltb (a .i) (first .ensures .0 n) && (ltb (a .j) (second .ensures .0 n) && ltb (a .k) (third .ensures .0 n)))
-          ∙ three-within (lengthAt (now (a .dim)) 1) (lengthAt (now (a .dim)) 2) (lengthAt (now (a .dim)) 3) (a .i) (a .j) (a .k),
-      small-index (first .result) (second .result) (third .result) (a .i) (a .j) (a .k) (first .ensures .1) (second .ensures .1) (third .ensures .1),
+          ∙ three-within (l 1) (l 2) (l 3) (a .i) (a .j) (a .k),
+      small-index (first .result) (second .result) (third .result) (a .i) (a .j) (a .k)
+          (first .ensures .1) (second .ensures .1) (third .ensures .1),
     )
 
 pub is-inside-spec : {M : Type 1} → statement M

@@ -10,14 +10,15 @@ use Rattle.position.proofs.length_at.Tie as tie
 axis-count-requires : tie.Need-axis-count-requires
 axis-count-requires c κs = search needs
 
-extent-of-requires : tie.Need-extent-of-requires
-extent-of-requires c κs = search needs
+axis-length-requires : tie.Need-axis-length-requires
+axis-length-requires c κs = search needs
 
 returns : tie.Need-returns
 returns c =
     let n = c .before .before in
     let a = n .before .args in
-    (c .extent-of .ensures .0 ∙ length-stated (now (a .dim)) (a .axis) (omega (arith, n .axis-count .ensures .0)), c .extent-of .ensures .1)
+    let stated = length-stated (now (a .dim)) (a .axis) (omega (arith, n .axis-count .ensures .0)) in
+    (c .axis-length .ensures .0 ∙ stated, c .axis-length .ensures .1)
 
 returns-2 : tie.Need-returns-2
 returns-2 c =
@@ -26,4 +27,4 @@ returns-2 c =
     (length-past (now (a .dim)) (a .axis) (omega (arith, n .axis-count .ensures .0)), omega arith)
 
 pub length-at-spec : {M : Type 1} → statement M
-length-at-spec = tie.close (tie.spec axis-count-requires extent-of-requires returns returns-2)
+length-at-spec = tie.close (tie.spec axis-count-requires axis-length-requires returns returns-2)

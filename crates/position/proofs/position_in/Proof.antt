@@ -10,21 +10,26 @@ use mir.Syntax.{w16}
 use mir.Val.{toZ, ofZ}
 use Rattle.grid.specs.Grid.{within}
 use Rattle.position.specs.Positions.{threeAxes, SmallIndex}
-use Rattle.position.proofs.Answers.{answerOf, position-outside, position-unset, position-placed}
+use Rattle.position.proofs.Answers.{fromPlaced, position-outside, position-unset, position-placed}
 use borrow.Author.Needs.{needs}
 use Rattle.position.proofs.position_in.Statement.{statement}
 use Rattle.position.proofs.position_in.Tie as tie
 
-inside : (c : tie.Else1) → within (threeAxes (c .before .before .before .before .args .header .dim)) (c .before .before .before .before .args .i ∷ c .before .before .before .before .args .j ∷ c .before .before .before .before .args .k ∷ []) ≡ true
+-- where the function began
+abbrev start : tie.Else1 → tie.Start
+start c = c .before .before .before .before
+
+inside : (c : tie.Else1) → let a = start c .args in within (threeAxes (a .header .dim)) (a .i ∷ a .j ∷ a .k ∷ []) ≡ true
 inside c = sym (c .before .is-inside .ensures .0) ∙ not-false _ (c .if1 .left)
 
-small : (c : tie.Else1) → SmallIndex (c .before .before .before .before .args .i) (c .before .before .before .before .args .j) (c .before .before .before .before .args .k)
+small : (c : tie.Else1) → let a = start c .args in SmallIndex (a .i) (a .j) (a .k)
 small c = c .before .is-inside .ensures .1 (not-false _ (c .if1 .left))
 
-code-same : (c : tie.After-struct-told) → toZ w16 (ofZ w16 (c .before .before .before .before .before .before .before .args .header .quatern .«sform_code»)) ≡ c .before .before .before .before .before .before .before .args .header .quatern .«sform_code»
+code-same : (c : tie.After-struct-told)
+    → let z = start (c .before .before .before) .args .header .quatern .«sform_code» in toZ w16 (ofZ w16 z) ≡ z
 code-same c = search needs
 
-above : (c : tie.Else2) → leZ (c .before .before .before .before .before .before .before .before .args .header .quatern .«sform_code») (pos 0) ≡ false
+above : (c : tie.Else2) → leZ (start (c .before .before .before .before) .args .header .quatern .«sform_code») (pos 0) ≡ false
 above c = (λ n. leZ (sym (code-same (c .before)) n) (pos 0)) ∙ c .if2 .left
 
 slice-aggregate-is-inside : tie.Need-slice-aggregate-is-inside
@@ -40,7 +45,8 @@ returns : tie.Need-returns
 returns c =
     let n = c .before .before in
     let a = n .before .before .before .args in
-    c .refused .ensures ∙ position-outside (a .header) (a .i) (a .j) (a .k) (sym (n .is-inside .ensures .0) ∙ not-true _ (c .before .if1 .taken))
+    c .refused .ensures
+    ∙ position-outside (a .header) (a .i) (a .j) (a .k) (sym (n .is-inside .ensures .0) ∙ not-true _ (c .before .if1 .taken))
 
 refused-requires-2 : tie.Need-refused-requires-2
 refused-requires-2 c κs = search needs
@@ -49,8 +55,9 @@ returns-2 : tie.Need-returns-2
 returns-2 c =
     let u = c .before in
     let e = u .before .before .before .before in
-    let a = e .before .before .before .before .args in
-    c .refused2 .ensures ∙ position-unset (a .header) (a .i) (a .j) (a .k) (inside e) ((λ n. leZ (sym (code-same (u .before)) n) (pos 0)) ∙ u .if2 .taken)
+    let a = start e .args in
+    let unset = (λ n. leZ (sym (code-same (u .before)) n) (pos 0)) ∙ u .if2 .taken in
+    c .refused2 .ensures ∙ position-unset (a .header) (a .i) (a .j) (a .k) (inside e) unset
 
 cast-place : tie.Need-cast-place
 cast-place c = record { fits = omega (arith, small (c .before .before .before .before .before .before .before .before) .first) }
@@ -78,16 +85,19 @@ returns-3 c =
     let p = c .before .before .before in
     let u = p .before .before .before .before .before in
     let e = u .before .before .before .before in
-    let a = e .before .before .before .before .args in
-    ap answerOf (sym (c .before .placed .given .1) ∙ p .place .ensures) ∙ position-placed (a .header) (a .i) (a .j) (a .k) (inside e) (above u)
+    let a = start e .args in
+    ap fromPlaced (sym (c .before .placed .given .1) ∙ p .place .ensures)
+    ∙ position-placed (a .header) (a .i) (a .j) (a .k) (inside e) (above u)
 
 returns-4 : tie.Need-returns-4
 returns-4 c =
     let p = c .before .before .before in
     let u = p .before .before .before .before .before in
     let e = u .before .before .before .before in
-    let a = e .before .before .before .before .args in
-    c .refused3 .ensures ∙ ap answerOf (sym (c .before .enum-told .given .1) ∙ p .place .ensures) ∙ position-placed (a .header) (a .i) (a .j) (a .k) (inside e) (above u)
+    let a = start e .args in
+    c .refused3 .ensures
+    ∙ ap fromPlaced (sym (c .before .enum-told .given .1) ∙ p .place .ensures)
+    ∙ position-placed (a .header) (a .i) (a .j) (a .k) (inside e) (above u)
 
 pub position-in-spec : {M : Type 1} → statement M
 position-in-spec =

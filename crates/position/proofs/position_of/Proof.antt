@@ -23,14 +23,18 @@ returns : tie.Need-returns
 returns c =
     let r = c .before .before .before in
     let a = r .before .before .args in
-    file-refused (now (a .file)) (a .i) (a .j) (a .k) (c .before .verdict .given .0 .0) (sym (λ n. r .read .ensures n .verdict) ∙ c .before .verdict .given .1)
+    let v = c .before .verdict .given in
+    file-refused (now (a .file)) (a .i) (a .j) (a .k) (v .0 .0) (sym (λ n. r .read .ensures n .verdict) ∙ v .1)
 
 returns-2 : tie.Need-returns-2
 returns-2 c =
     let t = c .before .before in
     let r = t .before .before in
     let a = r .before .before .args in
-    c .position-in .ensures ∙ (λ n. positionIn (r .read .ensures n .header) (a .i) (a .j) (a .k)) ∙ file-answered (now (a .file)) (a .i) (a .j) (a .k) (sym (λ n. r .read .ensures n .verdict) ∙ t .enum-told .given .1)
+    let accepted = sym (λ n. r .read .ensures n .verdict) ∙ t .enum-told .given .1 in
+    c .position-in .ensures
+    ∙ (λ n. positionIn (r .read .ensures n .header) (a .i) (a .j) (a .k))
+    ∙ file-answered (now (a .file)) (a .i) (a .j) (a .k) accepted
 
 pub position-of-spec : {M : Type 1} → statement M
 position-of-spec =

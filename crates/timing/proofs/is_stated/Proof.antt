@@ -10,14 +10,24 @@ use borrow.Author.Needs.{needs}
 use Rattle.timing.proofs.is_stated.Statement.{statement}
 use Rattle.timing.proofs.is_stated.Tie as tie
 
-start-same : (c : tie.After-struct-told) → toZ w16 (ofZ w16 (c .before .before .before .before .before .before .before .before .before .before .before .args .header .intent .«slice_start»)) ≡ c .before .before .before .before .before .before .before .before .before .before .before .args .header .intent .«slice_start»
+-- where the function began, and where slice_dim was taken
+abbrev start : tie.After-slice-dim → tie.Start
+start c = c .before .before .before .before .before .before
+
+abbrev dim-of : tie.After-acquires-in-arg → tie.After-slice-dim
+dim-of c = c .before .before .before .before
+
+length-same : (c : tie.After-acquires-in-arg)
+    → let z = dimAt (start (dim-of c) .args .header .dim) (dim-of c .slice-dim .result) in toZ w16 (ofZ w16 z) ≡ z
+length-same c = search needs
+
+start-same : (c : tie.After-struct-told)
+    → let z = start (dim-of (c .before)) .args .header .intent .«slice_start» in toZ w16 (ofZ w16 z) ≡ z
 start-same c = search needs
 
-end-same : (c : tie.After-struct-told2) → toZ w16 (ofZ w16 (c .before .before .before .before .before .before .before .before .before .before .before .before .args .header .scale .«slice_end»)) ≡ c .before .before .before .before .before .before .before .before .before .before .before .before .args .header .scale .«slice_end»
+end-same : (c : tie.After-struct-told2)
+    → let z = start (dim-of (c .before .before)) .args .header .scale .«slice_end» in toZ w16 (ofZ w16 z) ≡ z
 end-same c = search needs
-
-length-same : (c : tie.After-acquires-in-arg) → toZ w16 (ofZ w16 (dimAt (c .before .before .before .before .before .before .before .before .before .before .args .header .dim) (c .before .before .before .before .slice-dim .result))) ≡ dimAt (c .before .before .before .before .before .before .before .before .before .before .args .header .dim) (c .before .before .before .before .slice-dim .result)
-length-same c = search needs
 
 slice-dim-requires : tie.Need-slice-dim-requires
 slice-dim-requires c κs = search needs
@@ -43,16 +53,18 @@ acquires-in-requires c κs = search needs
 returns : tie.Need-returns
 unfolding isStated
 returns c =
-    let p = c .before .before .before .before in
+    let x = c .before .before .before in
+    let p = x .before in
     let n = p .before in
     let d = n .before .before in
-    let h = d .before .before .before .before .before .before .args .header in
+    let h = start d .args .header in
     let k = d .slice-dim .ensures .0 in
+    let length = length-same x ∙ ap (dimAt (h .dim)) k in
     λ i.
     leb 1 (k i) && leb (k i) 3 && leb (k i) (n .axis-count .ensures .0 i)
     && p .is-positive .ensures i
     && (leb 1 (h .scale .«slice_code») && leb (h .scale .«slice_code») 6)
-    && (c .acquires-in .ensures ∙ (λ j. acquires (start-same (c .before .before) j) (end-same (c .before) j) ((length-same (c .before .before .before) ∙ ap (dimAt (h .dim)) k) j))) i
+    && (c .acquires-in .ensures ∙ (λ j. acquires (start-same (c .before .before) j) (end-same (c .before) j) (length j))) i
 
 pub is-stated-spec : {M : Type 1} → statement M
 is-stated-spec =

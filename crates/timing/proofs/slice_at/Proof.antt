@@ -23,14 +23,17 @@ returns : tie.Need-returns
 returns c =
     let k = c .before .before .before in
     let a = k .before .before .args in
-    file-refused (now (a .file)) (a .s) (c .before .verdict .given .0 .0) (sym (λ i. k .read .ensures i .verdict) ∙ c .before .verdict .given .1)
+    let v = c .before .verdict .given in
+    file-refused (now (a .file)) (a .s) (v .0 .0) (sym (λ i. k .read .ensures i .verdict) ∙ v .1)
 
 returns-2 : tie.Need-returns-2
 returns-2 c =
     let t = c .before .before in
     let k = t .before .before in
     let a = k .before .before .args in
-    c .slice-in .ensures ∙ (λ i. sliceIn (k .read .ensures i .header) (a .s)) ∙ file-answered (now (a .file)) (a .s) (sym (λ i. k .read .ensures i .verdict) ∙ t .enum-told .given .1)
+    c .slice-in .ensures
+    ∙ (λ i. sliceIn (k .read .ensures i .header) (a .s))
+    ∙ file-answered (now (a .file)) (a .s) (sym (λ i. k .read .ensures i .verdict) ∙ t .enum-told .given .1)
 
 pub slice-at-spec : {M : Type 1} → statement M
 slice-at-spec =

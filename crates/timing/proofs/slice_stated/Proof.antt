@@ -5,8 +5,9 @@ use lib.Dec.{ltb}
 use mir.Syntax.{w16}
 use mir.Val.{toZ, ofZ}
 use native.Mathlib.Omega.{arith}
-use Rattle.grid.specs.Axes.{dimAt, extent}
-use Rattle.timing.specs.Slices.{sliceCount, firstSlice, lastSlice, timedBy}
+use Rattle.number.specs.Natural.{naturalOf}
+use Rattle.grid.specs.Axes.{dimAt}
+use Rattle.timing.specs.Slices.{sliceCount, firstSlice, lastSlice, rankAt, timedBy}
 use Rattle.slices.specs.Ranks.{rankIn}
 use Rattle.slices.specs.Times.{timeOf}
 use Rattle.timing.proofs.Answers.{stated-has, slice-outside, acquired-within, slice-padding, slice-acquired}
@@ -14,35 +15,46 @@ use borrow.Author.Needs.{needs}
 use Rattle.timing.proofs.slice_stated.Statement.{statement}
 use Rattle.timing.proofs.slice_stated.Tie as tie
 
-count-is : (c : tie.After-extent-of) → c .extent-of .result ≡ sliceCount (c .before .before .before .before .before .before .before .before .args .header)
-count-is c =
-    let a = c .before .before .before .before .before .before .before .before .args in
-    c .extent-of .ensures .0 ∙ ap (λ d. extent (dimAt (a .header .dim) d)) (c .before .slice-dim .ensures .0)
+-- where the function began, and the calls on the way back to it
+abbrev start : tie.After-axis-length → tie.Start
+start c = c .before .before .before .before .before .before .before .before
 
-first-same : (c : tie.After-struct-told) → toZ w16 (ofZ w16 (c .before .before .before .before .before .before .before .before .before .before .args .header .intent .«slice_start»)) ≡ c .before .before .before .before .before .before .before .before .before .before .args .header .intent .«slice_start»
+abbrev count-of : tie.After-natural → tie.After-axis-length
+count-of c = c .before .before .before
+
+abbrev first-of : tie.After-natural2 → tie.After-natural
+first-of c = c .before .before
+
+count-is : (c : tie.After-axis-length) → c .axis-length .result ≡ sliceCount (start c .args .header)
+count-is c =
+    c .axis-length .ensures .0 ∙ ap (λ d. naturalOf (dimAt (start c .args .header .dim) d)) (c .before .slice-dim .ensures .0)
+
+first-same : (c : tie.After-struct-told)
+    → let z = start (c .before .before) .args .header .intent .«slice_start» in toZ w16 (ofZ w16 z) ≡ z
 first-same c = search needs
 
-last-same : (c : tie.After-struct-told2) → toZ w16 (ofZ w16 (c .before .before .before .before .before .before .before .before .before .before .before .before .args .header .scale .«slice_end»)) ≡ c .before .before .before .before .before .before .before .before .before .before .before .before .args .header .scale .«slice_end»
+first-is : (c : tie.After-natural) → c .natural .result ≡ firstSlice (start (count-of c) .args .header)
+first-is c = c .natural .ensures .0 ∙ ap naturalOf (first-same (c .before))
+
+last-same : (c : tie.After-struct-told2)
+    → let z = start (count-of (c .before)) .args .header .scale .«slice_end» in toZ w16 (ofZ w16 z) ≡ z
 last-same c = search needs
 
-first-is : (c : tie.After-natural) → c .natural .result ≡ firstSlice (c .before .before .before .before .before .before .before .before .before .before .before .args .header)
-first-is c = c .natural .ensures .0 ∙ ap extent (first-same (c .before))
+last-is : (c : tie.After-natural2) → c .natural2 .result ≡ lastSlice (start (count-of (first-of c)) .args .header)
+last-is c = c .natural2 .ensures .0 ∙ ap naturalOf (last-same (c .before))
 
-last-is : (c : tie.After-natural2) → c .natural2 .result ≡ lastSlice (c .before .before .before .before .before .before .before .before .before .before .before .before .before .args .header)
-last-is c = c .natural2 .ensures .0 ∙ ap extent (last-same (c .before))
-
-slice-aggregate-extent-of : tie.Need-slice-aggregate-extent-of
-slice-aggregate-extent-of c = search needs
+slice-aggregate-axis-length : tie.Need-slice-aggregate-axis-length
+slice-aggregate-axis-length c = search needs
 
 slice-dim-requires : tie.Need-slice-dim-requires
 slice-dim-requires c κs = search needs
 
-extent-of-requires : tie.Need-extent-of-requires
-extent-of-requires c κs = search needs
+axis-length-requires : tie.Need-axis-length-requires
+axis-length-requires c κs = search needs
 
 returns : tie.Need-returns
 returns c =
-    let S = c .before .before .before .before .before .before .before .before .before in
+    let S = start (c .before) in
     slice-outside (S .args .header) (S .args .s) (S .pre) (omega (arith, count-is (c .before)))
 
 natural-requires : tie.Need-natural-requires
@@ -51,59 +63,58 @@ natural-requires c κs = search needs
 natural-requires-2 : tie.Need-natural-requires-2
 natural-requires-2 c κs = search needs
 
-cast-if2 : tie.Need-cast-if2
-cast-if2 c = search needs
-
-cast-if2-2 : tie.Need-cast-if2-2
-cast-if2-2 c = search needs
-
 returns-2 : tie.Need-returns-2
 returns-2 c =
     let e = c .before in
-    let f = e .before .before in
-    let x = f .before .before .before in
-    let S = x .before .before .before .before .before .before .before .before in
-    slice-padding (S .args .header) (S .args .s) (S .pre) (omega (arith, count-is x))
+    let f = first-of e in
+    let S = start (count-of f) in
+    slice-padding (S .args .header) (S .args .s) (S .pre) (omega (arith, count-is (count-of f)))
     ((λ i. ltb (S .args .s) (sym (first-is f) i) || ltb (sym (last-is e) i) (S .args .s)) ∙ c .if2 .taken)
 
 cast-timed : tie.Need-cast-timed
 cast-timed c = search needs
 
+cast-timed-2 : tie.Need-cast-timed-2
+cast-timed-2 c = search needs
+
+cast-timed-3 : tie.Need-cast-timed-3
+cast-timed-3 c = search needs
+
 timed-requires : tie.Need-timed-requires
 timed-requires c κs =
     let e = c .before in
-    let f = e .before .before in
-    let x = f .before .before .before in
-    let S = x .before .before .before .before .before .before .before .before in
-    let h = stated-has (S .args .header) (S .pre) in
+    let x = count-of (first-of e) in
+    let h = stated-has (start x .args .header) (start x .pre) in
     let o = acquired-within _ _ _ (c .if2 .left) in
-    (o .0, o .1, omega (arith, h .inside, last-is e, count-is x, x .extent-of .ensures .1), h .duration)
+    (o .0, o .1, omega (arith, h .inside, last-is e, count-is x, x .axis-length .ensures .1), h .duration)
 
 returns-3 : tie.Need-returns-3
 returns-3 c =
     let e = c .before .before in
-    let f = e .before .before in
-    let x = f .before .before .before in
-    let S = x .before .before .before .before .before .before .before .before in
+    let f = first-of e in
+    let S = start (count-of f) in
     let a = S .args in
+    let code = a .header .scale .«slice_code» in
+    let rank : rankIn code (f .natural .result) (e .natural2 .result) (a .s) ≡ rankAt (a .header) (a .s) =
+    λ i. rankIn code (first-is f i) (last-is e i) (a .s) in
     c .timed .ensures
-    ∙ (λ i. timedBy (rankIn (a .header .scale .«slice_code») (first-is f i) (last-is e i) (a .s)) (timeOf (a .header .display .«slice_duration») (rankIn (a .header .scale .«slice_code») (first-is f i) (last-is e i) (a .s))))
-    ∙ slice-acquired (a .header) (a .s) (S .pre) (omega (arith, count-is x))
+    ∙ (λ i. timedBy (rank i) (timeOf (a .header .display .«slice_duration») (rank i)))
+    ∙ slice-acquired (a .header) (a .s) (S .pre) (omega (arith, count-is (count-of f)))
     ((λ i. ltb (a .s) (sym (first-is f) i) || ltb (sym (last-is e) i) (a .s)) ∙ c .before .if2 .left)
 
 pub slice-stated-spec : {M : Type 1} → statement M
 slice-stated-spec =
     tie.close
     (tie.spec
-    slice-aggregate-extent-of
+    slice-aggregate-axis-length
     slice-dim-requires
-    extent-of-requires
+    axis-length-requires
     returns
     natural-requires
     natural-requires-2
-    cast-if2
-    cast-if2-2
     returns-2
     cast-timed
+    cast-timed-2
+    cast-timed-3
     timed-requires
     returns-3)

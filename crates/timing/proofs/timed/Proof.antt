@@ -8,13 +8,10 @@ use Rattle.timing.proofs.timed.Statement.{statement}
 use Rattle.timing.proofs.timed.Tie as tie
 
 answer-is : (c : tie.After-time-of)
-    → timedBy (c .before .rank .result) (c .time-of .result)
-    ≡ timedBy
-    (rankIn (c .before .before .args .code) (c .before .before .args .start) (c .before .before .args .end) (c .before .before .args .s))
-    (timeOf (c .before .before .args .duration) (rankIn (c .before .before .args .code) (c .before .before .args .start) (c .before .before .args .end) (c .before .before .args .s)))
-answer-is c =
-    let a = c .before .before .args in
-    ap (timedBy (c .before .rank .result)) (c .time-of .ensures) ∙ (λ i. timedBy (c .before .rank .ensures i) (timeOf (a .duration) (c .before .rank .ensures i)))
+    → let a = c .before .before .args in
+    let rank = rankIn (a .code) (a .start) (a .end) (a .s) in
+    timedBy (c .before .rank .result) (c .time-of .result) ≡ timedBy rank (timeOf (a .duration) rank)
+answer-is c = rw (c .time-of .ensures, c .before .rank .ensures)
 
 rank-requires : tie.Need-rank-requires
 rank-requires c κs = search needs

@@ -20,8 +20,9 @@ locate-at-requires c κs = sym (c .before .before .before .judge-record .ensures
 returns : tie.Need-returns
 returns c =
     let j = c .before .before .before in
-    let S = j .before in
-    locates-failed (S .args .header) (S .args .len) (S .args .index) (c .before .judged .given .0 .0) (sym (j .judge-record .ensures) ∙ c .before .judged .given .1)
+    let a = j .before .args in
+    let f = c .before .judged .given in
+    locates-failed (a .header) (a .len) (a .index) (f .0 .0) (sym (j .judge-record .ensures) ∙ f .1)
 
 returns-2 : tie.Need-returns-2
 returns-2 c = search needs

@@ -12,10 +12,10 @@ enum-told : tie.Need-enum-told
 enum-told c = search needs
 
 -- what the caller shows, of a single file and of a pair
-room : (c : tie.After-enum-told) → c .before .before .args .at + c .before .before .args .n ≤ length (now (c .before .before .args .file))
+room : (c : tie.After-enum-told) → let a = c .before .before .args in a .at + a .n ≤ length (now (a .file))
 room c = rw (c .enum-told .given .1) at (c .before .before .pre)
 
-room-2 : (c : tie.After-enum-told2) → c .before .before .args .at + c .before .before .args .n ≤ length (now (c .before .before .args .image))
+room-2 : (c : tie.After-enum-told2) → let a = c .before .before .args in a .at + a .n ≤ length (now (a .image))
 room-2 c = rw (c .enum-told2 .given .1) at (c .before .before .pre)
 
 add-end : tie.Need-add-end

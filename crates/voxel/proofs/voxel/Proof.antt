@@ -20,8 +20,8 @@ abbrev asked : tie.Start → List ℕ
 asked S = S .args .i1 ∷ S .args .i2 ∷ S .args .i3 ∷ S .args .i4 ∷ S .args .i5 ∷ S .args .i6 ∷ S .args .i7 ∷ []
 
 located-is : (c : tie.After-locate-read)
-    → locatedOf (now (c .before .before .before .before .args .file)) (now (c .before .before .before .before .args .image)) (asked (c .before .before .before .before))
-    ≡ c .locate-read .result
+    → let S = c .before .before .before .before in
+    locatedOf (now (S .args .file)) (now (S .args .image)) (asked S) ≡ c .locate-read .result
 unfolding locatedOf
 located-is c = sym (rw (c .before .read .ensures) at (c .locate-read .ensures))
 
@@ -45,7 +45,8 @@ part-requires c κs =
     let l = c .before .before .before .before in
     let S = l .before .before .before .before in
     let e = c .before .before .located .given in
-    rw (l .before .read .ensures) (voxel-in-file (now (S .args .file)) (now (S .args .image)) (asked S) (e .0 .0) (located-is l ∙ e .1))
+    rw (l .before .read .ensures)
+    (voxel-in-file (now (S .args .file)) (now (S .args .image)) (asked S) (e .0 .0) (located-is l ∙ e .1))
 
 returns : tie.Need-returns
 returns c =

@@ -1,4 +1,4 @@
--- `run_in` meets its contract: after k turns the largest is that of the record's first k voxels.
+-- `run_in` meets its contract: after k turns the greatest is that of the record's first k voxels.
 use mathlib.Core.Path.{_≡_, sym}
 use Prim.Native.Nat.{_-_, _≤_}
 use native.Mathlib.Omega.{arith}
@@ -23,8 +23,8 @@ locate-in-requires c κs = search needs
 place-of-requires : tie.Need-place-of-requires Inv-loop μ-loop
 place-of-requires c κs = search needs
 
-larger-requires : tie.Need-larger-requires Inv-loop μ-loop
-larger-requires c κs = search needs
+greater-requires : tie.Need-greater-requires Inv-loop μ-loop
+greater-requires c κs = search needs
 
 add-k : tie.Need-add-k Inv-loop μ-loop
 add-k c = search needs
@@ -36,7 +36,8 @@ loop-again : tie.Need-loop-again Inv-loop μ-loop
 loop-again c =
     let lo = c .before .before .before .before in (
       omega arith,
-      most-next _ (lo .loop .k) (lo .loop .inv .1) (c .before .before .locate-in .ensures) (c .before .place-of .ensures) (c .larger .ensures),
+      most-next _ (lo .loop .k) (lo .loop .inv .1)
+          (c .before .before .locate-in .ensures) (c .before .place-of .ensures) (c .greater .ensures),
     )
 
 returns : tie.Need-returns Inv-loop μ-loop
@@ -54,7 +55,7 @@ run-in-spec =
     loop-holds
     locate-in-requires
     place-of-requires
-    larger-requires
+    greater-requires
     add-k
     loop-less
     loop-again

@@ -1,4 +1,4 @@
--- `voxel_run_by_file` meets its contract: after k turns the largest is that of the file's first k voxels.
+-- `voxel_run_by_file` meets its contract: after k turns the greatest is that of the file's first k voxels.
 use mathlib.Core.Path.{_≡_, sym}
 use Prim.Native.Nat.{_-_, _≤_}
 use native.Mathlib.Omega.{arith}
@@ -26,8 +26,8 @@ locate-requires c κs = search needs
 place-of-requires : tie.Need-place-of-requires Inv-loop μ-loop
 place-of-requires c κs = search needs
 
-larger-requires : tie.Need-larger-requires Inv-loop μ-loop
-larger-requires c κs = search needs
+greater-requires : tie.Need-greater-requires Inv-loop μ-loop
+greater-requires c κs = search needs
 
 add-k : tie.Need-add-k Inv-loop μ-loop
 add-k c = search needs
@@ -39,7 +39,8 @@ loop-again : tie.Need-loop-again Inv-loop μ-loop
 loop-again c =
     let lo = c .before .before .before .before .before in (
       omega arith,
-      most-next _ (lo .loop .k) (lo .loop .inv .1) (c .before .before .locate .ensures) (c .before .place-of .ensures) (c .larger .ensures),
+      most-next _ (lo .loop .k) (lo .loop .inv .1)
+          (c .before .before .locate .ensures) (c .before .place-of .ensures) (c .greater .ensures),
     )
 
 returns : tie.Need-returns Inv-loop μ-loop
@@ -58,7 +59,7 @@ voxel-run-by-file-spec =
     slice-aggregate-locate
     locate-requires
     place-of-requires
-    larger-requires
+    greater-requires
     add-k
     loop-less
     loop-again
