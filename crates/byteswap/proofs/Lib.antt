@@ -1,6 +1,5 @@
 -- The laws that the functions' proofs rest on, and the theorems.
 pub mod Turning
-pub mod Passes
 pub mod Whole
 pub mod Answers
 pub mod Places

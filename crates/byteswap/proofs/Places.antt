@@ -8,14 +8,14 @@ use mathlib.Core.List.{List, reverse}
 use native.Mathlib.Omega.{arith}
 use native.Mathlib.Nat.{add-zero, mul-one}
 use lib.ListN.{length, getD}
-use mir.Syntax.{w16, w32}
+use mir.Syntax.{w16}
 use mir.Val.{toZ}
 use Rattle.field.specs.declared.Order.{Order}
-use Rattle.field.specs.Numbers.{other, bytesAt, numberOf, u16At, u32At, i16At, i32At, u32sAt, i16sAt}
+use Rattle.field.specs.Numbers.{other, bytesAt, numberOf, u16At, u32At, i16At, u32sAt, i16sAt}
 use Rattle.field.proofs.Inverse.{number-other}
 use Rattle.field.proofs.Tabulate.{bytesAt-part, tabulate-same}
-use Rattle.units.specs.Runs.{Run, turnRuns, spanOf}
-use Rattle.units.proofs.Runs.{length-turnRuns}
+use Rattle.units.specs.Runs.{Run, turnRuns}
+use Rattle.units.proofs.Runs.{spanOf, length-turnRuns}
 use Rattle.units.proofs.Places.{unitsAt, turns-at}
 
 module _ (rs : List Run) (s : List ℕ) (room : spanOf rs ≤ length s) where
@@ -29,37 +29,23 @@ module _ (rs : List Run) (s : List ℕ) (room : spanOf rs ≤ length s) where
       ∙ t .unit
       ∙ ap reverse (sym (bytesAt-part (p + i * w) w s (omega (arith, t .inside))))
 
-  number-same : (o : Order) (w n p i : ℕ) → unitsAt w n p rs ≡ true → i < n → numberOf (other o) (bytesAt (p + i * w) w after) ≡ numberOf o (bytesAt (p + i * w) w s)
+  number-same : (o : Order) (w n p i : ℕ) → unitsAt w n p rs ≡ true → i < n
+      → numberOf (other o) (bytesAt (p + i * w) w after) ≡ numberOf o (bytesAt (p + i * w) w s)
   number-same o w n p i h b = ap (numberOf (other o)) (unit-bytes w n p i h b) ∙ number-other o (bytesAt (p + i * w) w s)
 
-  u32-in : (o : Order) (n p i : ℕ) → unitsAt 4 n p rs ≡ true → i < n → u32At (other o) after (p + i * 4) ≡ u32At o s (p + i * 4)
-  unfolding u32At
-  u32-in o n p i h b = number-same o 4 n p i h b
-
-  u16-in : (o : Order) (n p i : ℕ) → unitsAt 2 n p rs ≡ true → i < n → u16At (other o) after (p + i * 2) ≡ u16At o s (p + i * 2)
-  unfolding u16At
-  u16-in o n p i h b = number-same o 2 n p i h b
-
   pub u32s-same : (o : Order) (p n : ℕ) → unitsAt 4 n p rs ≡ true → u32sAt (other o) after p n ≡ u32sAt o s p n
-  u32s-same o p n h = tabulate-same (λ i. u32At (other o) after (p + i * 4)) (λ i. u32At o s (p + i * 4)) n (λ i b. u32-in o n p i h b)
+  unfolding u32At
+  u32s-same o p n h =
+      tabulate-same (λ i. u32At (other o) after (p + i * 4)) (λ i. u32At o s (p + i * 4)) n (λ i b. number-same o 4 n p i h b)
 
   pub i16s-same : (o : Order) (p n : ℕ) → unitsAt 2 n p rs ≡ true → i16sAt (other o) after p n ≡ i16sAt o s p n
-  i16s-same o p n h = tabulate-same (λ i. i16At (other o) after (p + i * 2)) (λ i. i16At o s (p + i * 2)) n (λ i b. ap (toZ w16) (u16-in o n p i h b))
+  unfolding u16At
+  i16s-same o p n h =
+      tabulate-same (λ i. i16At (other o) after (p + i * 2)) (λ i. i16At o s (p + i * 2)) n
+      (λ i b. ap (toZ w16) (number-same o 2 n p i h b))
 
-  pub u32-same : (o : Order) (p : ℕ) → unitsAt 4 1 p rs ≡ true → u32At (other o) after p ≡ u32At o s p
-  u32-same o p h = rw add-zero at (u32-in o 1 p 0 h (omega arith))
-
-  pub i32-same : (o : Order) (p : ℕ) → unitsAt 4 1 p rs ≡ true → i32At (other o) after p ≡ i32At o s p
-  i32-same o p h = ap (toZ w32) (u32-same o p h)
-
-  pub i16-same : (o : Order) (p : ℕ) → unitsAt 2 1 p rs ≡ true → i16At (other o) after p ≡ i16At o s p
-  i16-same o p h = ap (toZ w16) (rw add-zero at (u16-in o 1 p 0 h (omega arith)))
-
-  byte-in : (n p i : ℕ) → unitsAt 1 n p rs ≡ true → i < n → getD after (p + i) 0 ≡ getD s (p + i) 0
-  byte-in n p i h b = let e = unit-bytes 1 n p i h b in rw (mul-one, add-zero) at (ap (λ (l : List ℕ). getD l 0 0) e)
+  byte-same : (n p i : ℕ) → unitsAt 1 n p rs ≡ true → i < n → getD after (p + i) 0 ≡ getD s (p + i) 0
+  byte-same n p i h b = let e = unit-bytes 1 n p i h b in rw (mul-one, add-zero) at (ap (λ (l : List ℕ). getD l 0 0) e)
 
   pub text-same : (p n : ℕ) → unitsAt 1 n p rs ≡ true → bytesAt p n after ≡ bytesAt p n s
-  text-same p n h = tabulate-same (λ i. getD after (p + i) 0) (λ i. getD s (p + i) 0) n (λ i b. byte-in n p i h b)
-
-  pub byte-same : (p : ℕ) → unitsAt 1 1 p rs ≡ true → getD after p 0 ≡ getD s p 0
-  byte-same p h = rw add-zero at (byte-in 1 p 0 h (omega arith))
+  text-same p n h = tabulate-same (λ i. getD after (p + i) 0) (λ i. getD s (p + i) 0) n (λ i b. byte-same n p i h b)

@@ -2,44 +2,38 @@
 -- reading is the old one in the other byte order (`reading-swapped`).
 use Prim.Native.Nat.{ℕ, _+_, _-_, _*_, _≤_, _<_}
 use mathlib.Core.Path.{_≡_, refl, sym, ap, _∙_}
-use mathlib.Core.Bool.{or-comm, true, false, not, _||_}
+use mathlib.Core.Bool.{Bool, true, false, _||_}
 use mathlib.Core.List.{List, [], _∷_, _++_}
 use native.Mathlib.Omega.{arith}
 use native.Mathlib.Nat.{mul-one}
-use borrow.Author.Tests.{ltb-false, lt-leb, le-leb}
-use lib.Dec.{ltb}
+use borrow.Author.Tests.{lt-leb, le-leb}
 use lib.ListN.{length, take, drop, getD, take-append-drop}
 use lib.Seq.{getD-drop}
 use Rattle.field.specs.declared.Order.{Order}
-use Rattle.field.specs.declared.Order.the-variants.{Little, Big}
-use Rattle.field.specs.Numbers.{other, bytesAt, i32At}
+use Rattle.field.specs.Numbers.{other, i32At}
 use Rattle.field.proofs.Tabulate.{tabulate-same}
 use Rattle.refusal.specs.declared.Verdict.the-variants.{Accepted}
-use Rattle.refusal.specs.Table.{row, verdict}
-use Rattle.offset.specs.Offset.{offsetLimit}
-use Rattle.datatype.specs.Datatypes.{isNumber}
+use Rattle.number.proofs.Lists.{drop-take-add}
 use Rattle.extension.specs.declared.Span.{Span}
-use Rattle.extension.specs.Walk.{extensionLimit, firstPlace, restOf, listed, extensionsIn}
+use Rattle.extension.specs.Walk.{extensionLimit, firstPlace, restOf, walk, listed, extensionsIn}
 use Rattle.extension.specs.Listing.{spansOf}
 use Rattle.extension.specs.Fills.{Fills}
-use Rattle.extension.proofs.Pieces.{opened}
 use Rattle.header.specs.declared.Kind.{Kind}
 use Rattle.header.specs.declared.Kind.the-variants.{Single, Pair}
-use Rattle.header.specs.Fields.{headerOf}
+use Rattle.header.specs.Fields.{headerOf, inOrder}
 use Rattle.rules.specs.declared.Image.{Image}
-use Rattle.rules.specs.Rules.{offsetOutside, fieldRows, imageOf}
-use Rattle.rules.proofs.Passed.{neither}
-use Rattle.reader.specs.File.{holdsIn, orderOf, sameBytes, kindOf, shapeIn, shapeOf, fileRows, layoutOf, cutShort, cutExtender, noExtensions, someExtensions, hasNone, hasExtensions, regionEnd, extensionsOf, unlessRefused, judgement}
-use Rattle.reader.specs.Reading.{readingBy, readingOf}
-use Rattle.units.specs.Runs.{Run, run, turnRuns, spanOf, headerRuns}
-use Rattle.units.proofs.Units.{drop-take, turned-bytes}
-use Rattle.units.proofs.Runs.{length-turnRuns, runs-append, runs-own, runs-behind, runs-middle, header-span}
+use Rattle.rules.specs.Rules.{imageOf, cutShort, regionEnd}
+use Rattle.layout.specs.File.{holdsIn, orderOf, hasMagic, kindOf, shapeIn, shapeOf, extenderOf, hasNone, hasExtensions, cutExtender, layoutOf, endOf}
+use Rattle.reader.specs.Reading.{extensionsOf, readingOf}
+use Rattle.reader.proofs.File.{regionOf, Rules, AcceptedFile, judged-file, file-judged, file-reads}
+use Rattle.units.specs.Runs.{Run, run, turnRuns, headerRuns}
+use Rattle.units.proofs.Units.{turned-bytes}
+use Rattle.units.proofs.Runs.{spanOf, length-turnRuns, runs-append, runs-own, runs-behind, runs-middle, header-span}
 use Rattle.units.proofs.Places.{unitsAt}
 use Rattle.byteswap.specs.Swap.{unitIn, extensionRuns, regionRuns, ownImage, fileRuns}
-use Rattle.byteswap.specs.Other.{inOtherOrder, readInOther}
+use Rattle.byteswap.specs.Other.{readInOther}
 use Rattle.byteswap.proofs.Turning.{fills-span}
-use Rattle.byteswap.proofs.Passes.{Passes, Listed, none, some, endIn, region-in, judged-accepted, judged-passes, judged-listed, list-fills}
-use Rattle.byteswap.proofs.Whole.{file-span}
+use Rattle.byteswap.proofs.Whole.{placeOf, unitFor, room}
 use Rattle.byteswap.proofs.Places.{text-same}
 use Rattle.byteswap.proofs.Fields.{magic-same, kind-same, holds-same, order-other, size-same, shape-same, unit-same, header-same}
 use Rattle.byteswap.proofs.Regions.{walk-turned}
@@ -60,14 +54,8 @@ runs-stay rs n l =
 stay-at : (n : ℕ) (rs : List Run) → 4 ≤ n → unitsAt 1 4 348 (headerRuns ++ (run 1 n ∷ rs)) ≡ true
 stay-at n rs h = rw (mul-one n, lt-leb n 0 (omega arith), le-leb 4 n h)
 
-extender-single : (image : Image) (rs : List Run) (s : List ℕ) → offsetOutside Single (image .offset) (length s) ≡ false
-    → spanOf (headerRuns ++ (run 1 (image .offset - 348) ∷ rs)) ≤ length s
-    → bytesAt 348 4 (turnRuns (headerRuns ++ (run 1 (image .offset - 348) ∷ rs)) s) ≡ bytesAt 348 4 s
-extender-single image rs s h room =
-    let least = ltb-false (image .offset) 352 (neither (ltb (image .offset) 352) (ltb offsetLimit (image .offset)) h .0) in
-    text-same (headerRuns ++ (run 1 (image .offset - 348) ∷ rs)) s room 348 4 (stay-at (image .offset - 348) rs (omega arith))
-
-extender-pair : (n : ℕ) (s : List ℕ) → spanOf headerRuns ≤ length s → bytesAt 348 4 (turnRuns (headerRuns ++ (run 1 n ∷ [])) s) ≡ bytesAt 348 4 s
+-- a pair's header file may end at 348
+extender-pair : (n : ℕ) (s : List ℕ) → spanOf headerRuns ≤ length s → extenderOf (turnRuns (headerRuns ++ (run 1 n ∷ [])) s) ≡ extenderOf s
 extender-pair n s room =
     let t : List ℕ = turnRuns headerRuns s in
     let behind : drop 348 t ≡ drop 348 s = rw header-span at (runs-behind headerRuns s room) in
@@ -75,129 +63,116 @@ extender-pair n s room =
     (tabulate-same (λ i. getD t (348 + i) 0) (λ i. getD s (348 + i) 0) 4
     (λ i b. sym (getD-drop 348 t i 0) ∙ ap (λ (l : List ℕ). getD l i 0) behind ∙ getD-drop 348 s i 0))
 
--- the four bytes behind the header stay, where the file has them
-extender-same : (kind : Kind) (image : Image) (unit : ℕ) (s : List ℕ) (xs : List Span) → 348 ≤ length s → offsetOutside kind (image .offset) (length s) ≡ false
-    → spanOf (headerRuns ++ (regionRuns (regionEnd kind image (length s)) xs ++ ownImage kind image unit)) ≤ length s
-    → bytesAt 348 4 (turnRuns (headerRuns ++ (regionRuns (regionEnd kind image (length s)) xs ++ ownImage kind image unit)) s) ≡ bytesAt 348 4 s
-extender-same kind image unit s (x ∷ xs) long h room =
-    text-same (headerRuns ++ (run 1 4 ∷ (extensionRuns (x ∷ xs) ++ ownImage kind image unit))) s room 348 4 refl
-extender-same Single image unit s [] long h room = extender-single image (ownImage Single image unit) s h room
-extender-same Pair image unit s [] long h room = extender-pair (length s - 348) s (rw header-span long)
+-- what follows the header's runs in a file's list
+abbrev behind : Kind → Image → ℕ → ℕ → List Span → List Run
+behind kind image unit len xs = regionRuns (regionEnd kind image len) xs ++ ownImage kind image unit
+
+-- the four bytes behind the header stay
+extender-same : (kind : Kind) (image : Image) (unit : ℕ) (s : List ℕ) (xs : List Span) → 348 ≤ length s
+    → (kind ≡ Single → firstPlace ≤ image .offset) → spanOf (headerRuns ++ behind kind image unit (length s) xs) ≤ length s
+    → extenderOf (turnRuns (headerRuns ++ behind kind image unit (length s) xs) s) ≡ extenderOf s
+extender-same kind image unit s (x ∷ xs) long begins room =
+    text-same (headerRuns ++ behind kind image unit (length s) (x ∷ xs)) s room 348 4 refl
+extender-same Single image unit s [] long begins room =
+    let least = begins refl in
+    let own = ownImage Single image unit in
+    text-same (headerRuns ++ behind Single image unit (length s) []) s room 348 4 (stay-at (image .offset - 348) own (omega arith))
+extender-same Pair image unit s [] long begins room = extender-pair (length s - 348) s (rw header-span long)
 
 -- ---- The extensions
 
-rest-turned : (end : ℕ) (x : Span) (xs : List Span) (rs : List Run) (s : List ℕ) → Fills firstPlace end (x ∷ xs) → end ≤ length s
-    → restOf (turnRuns (headerRuns ++ (regionRuns end (x ∷ xs) ++ rs)) s) end firstPlace ≡ turnRuns (extensionRuns (x ∷ xs)) (restOf s end firstPlace)
+rest-turned : (end : ℕ) (xs : List Span) (rs : List Run) (s : List ℕ) → 0 < length xs → Fills firstPlace end xs → end ≤ length s
+    → restOf (turnRuns (headerRuns ++ (regionRuns end xs ++ rs)) s) end firstPlace ≡ turnRuns (extensionRuns xs) (restOf s end firstPlace)
 unfolding spanOf
-rest-turned end x xs rs s f h =
+rest-turned end [] rs s some f h = absurd (omega arith)
+rest-turned end (x ∷ xs) rs s some f h =
     let k : ℕ = spanOf (extensionRuns (x ∷ xs)) in
     let ends : 352 + k ≡ end = fills-span f in
     let t : List ℕ = turnRuns (headerRuns ++ (regionRuns end (x ∷ xs) ++ rs)) s in
-    rw (← ends, drop-take 352 k t, drop-take 352 k s) (runs-middle (headerRuns ++ (run 1 4 ∷ [])) (extensionRuns (x ∷ xs)) rs s (omega arith))
-
-extensions-same : (o : Order) (end : ℕ) (xs : List Span) (rs : List Run) (s : List ℕ) → (0 < length xs → Fills firstPlace end xs) → end ≤ length s
-    → extensionsIn o end s ≡ listed xs → extensionsIn (other o) end (turnRuns (headerRuns ++ (regionRuns end xs ++ rs)) s) ≡ listed xs
-unfolding extensionsIn
-extensions-same o end [] rs s f h e = let n = opened o extensionLimit firstPlace (restOf s end firstPlace) [] e .some refl in absurd (omega arith)
-extensions-same o end (x ∷ xs) rs s f h e =
-    rw (rest-turned end x xs rs s (f (omega arith)) h) (walk-turned o extensionLimit firstPlace (restOf s end firstPlace) (x ∷ xs) (omega arith) e)
+    rw (← ends, drop-take-add 352 k t, drop-take-add 352 k s)
+    (runs-middle (headerRuns ++ (run 1 4 ∷ [])) (extensionRuns (x ∷ xs)) rs s (omega arith))
 
 -- ---- The reading
 
-module _ (s : List ℕ) (xs : List Span) (e : judgement s ≡ listed xs) where
-  passes : Passes s (layoutOf s)
-  passes = judged-passes s xs e
-
-  lists : Listed s (layoutOf s) xs
-  lists = judged-listed s xs e
-
-  abbrev end : ℕ
-  end = endIn (layoutOf s) s
-
-  abbrev own : List Run
-  own = ownImage (kindOf s) (imageOf (shapeOf s)) (unitIn (orderOf s) s)
-
+module _ {s : List ℕ} {xs : List Span} (f : AcceptedFile s xs) where
   abbrev rest : List Run
-  rest = regionRuns end xs ++ own
+  rest = behind (kindOf s) (placeOf s) (unitFor s) (length s) xs
 
   abbrev pub swapped : List ℕ
   swapped = turnRuns (headerRuns ++ rest) s
 
-  pub room : spanOf (headerRuns ++ rest) ≤ length s
+  spans : spanOf (headerRuns ++ rest) ≤ length s
   unfolding fileRuns
-  room =
-      let r = region-in s (layoutOf s) passes in
-      file-span (kindOf s) (imageOf (shapeOf s)) (unitIn (orderOf s) s) s xs (r .0) (r .1) (passes .whole) (list-fills passes lists)
+  spans = room f
 
   pub order-is : orderOf swapped ≡ other (orderOf s)
-  order-is = order-other rest s room (passes .ordered)
+  order-is = order-other rest s spans (f .rules .ordered)
 
   pub kind-is : kindOf swapped ≡ kindOf s
-  kind-is = kind-same rest s room
+  kind-is = kind-same rest s spans
 
   pub length-is : length swapped ≡ length s
   length-is = length-turnRuns (headerRuns ++ rest) s
 
   pub shape-is : shapeOf swapped ≡ shapeOf s
-  shape-is = (λ i. shapeIn (order-is i) (kind-is i) swapped) ∙ shape-same rest s room (orderOf s) (kindOf s)
+  shape-is = (λ i. shapeIn (order-is i) (kind-is i) swapped) ∙ shape-same rest s spans (orderOf s) (kindOf s)
 
-  pub unit-is : unitIn (orderOf swapped) swapped ≡ unitIn (orderOf s) s
-  unit-is = ap (λ (o : Order). unitIn o swapped) order-is ∙ unit-same rest s room (orderOf s)
+  pub unit-is : unitFor swapped ≡ unitFor s
+  unit-is = ap (λ (o : Order). unitIn o swapped) order-is ∙ unit-same rest s spans (orderOf s)
 
-  extender-is : bytesAt 348 4 swapped ≡ bytesAt 348 4 s
-  extender-is = extender-same (kindOf s) (imageOf (shapeOf s)) (unitIn (orderOf s) s) s xs (passes .long) (passes .outside) room
+  -- the extender, and so both tests of it
+  extender-is : extenderOf swapped ≡ extenderOf s
+  extender-is = extender-same (kindOf s) (placeOf s) (unitFor s) s xs (f .rules .long) (f .begins) spans
 
   some-is : hasExtensions swapped ≡ hasExtensions s
   unfolding hasExtensions
-  some-is = ap (λ (l : List ℕ). sameBytes l someExtensions) extender-is
+  some-is = cc extender-is
 
   none-is : hasNone swapped ≡ hasNone s
   unfolding hasNone
-  none-is = ap (λ (l : List ℕ). sameBytes l noExtensions) extender-is
+  none-is = cc extender-is
 
-  held-is : (holdsIn Little swapped || holdsIn Big swapped) ≡ (holdsIn Little s || holdsIn Big s)
-  held-is = (λ i. holds-same rest s room Big i || holds-same rest s room Little i) ∙ or-comm (holdsIn Big s) (holdsIn Little s)
-
-  sized-is : i32At (orderOf swapped) swapped 0 ≡ i32At (orderOf s) s 0
-  sized-is = ap (λ (o : Order). i32At o swapped 0) order-is ∙ size-same rest s room (orderOf s)
-
-  rules-are : fileRows swapped ≡ fileRows s
+  rules-are : Rules swapped
   rules-are =
-      λ i.
-      row 1 (ltb (length-is i) 348) 0
-      ∷ row 2 (not (held-is i)) 40
-      ∷ row 3 (not (isNumber (sized-is i) 348)) 0
-      ∷ row 4 (not (magic-same rest s room Single i || magic-same rest s room Pair i)) 344
-      ∷ (fieldRows (shape-is i) (length-is i)
-      ++ (row 11 (cutShort (kind-is i) (length-is i) (imageOf (shape-is i))) 108
-      ∷ row 12 (cutExtender (kind-is i) (length-is i) || not (none-is i || some-is i)) 348
-      ∷ []))
+      let r = f .rules in
+      record {
+        long = rw length-is (r .long);
+        ordered = ap (λ (o : Order). holdsIn o swapped) order-is ∙ holds-same rest s spans (orderOf s) ∙ r .ordered;
+        size = ap (λ (o : Order). i32At o swapped 0) order-is ∙ size-same rest s spans (orderOf s) ∙ r .size;
+        magic = ap (λ (k : Kind). hasMagic k swapped) kind-is ∙ magic-same rest s spans (kindOf s) ∙ r .magic;
+        fields = rw (shape-is, length-is) (r .fields);
+        whole = (λ i. cutShort (kind-is i) (length-is i) (imageOf (shape-is i))) ∙ r .whole;
+        extended = (λ i. cutExtender (kind-is i) (length-is i)) ∙ r .extended;
+        extender = (λ i. none-is i || some-is i) ∙ r .extender;
+      }
 
-  ends-is : endIn (layoutOf swapped) swapped ≡ end
-  ends-is = λ i. regionEnd (kind-is i) (imageOf (shape-is i)) (length-is i)
-
-  extensions-by : {ys : List Span} → Listed s (layoutOf s) ys → ys ≡ xs → extensionsOf (layoutOf swapped) swapped ≡ listed xs
-  extensions-by (none h) q = rw (some-is, h) (ap listed q)
-  extensions-by (some h w) q =
-      rw (some-is, h)
-      ((λ i. extensionsIn (order-is i) (ends-is i) swapped)
-      ∙ extensions-same (orderOf s) end xs own s (list-fills passes lists) (region-in s (layoutOf s) passes .1) (w ∙ ap listed q))
+  walked : hasExtensions s ≡ true → extensionsIn (orderOf swapped) (regionEnd (kindOf swapped) (placeOf swapped) (length swapped)) swapped ≡ listed xs
+  unfolding extensionsIn endOf
+  walked h =
+      (λ i. walk (order-is i) extensionLimit firstPlace (restOf swapped (regionEnd (kind-is i) (imageOf (shape-is i)) (length-is i)) firstPlace))
+      ∙ ap (walk (other (orderOf s)) extensionLimit firstPlace)
+      (rest-turned (endOf s) xs (ownImage (kindOf s) (placeOf s) (unitFor s)) s (f .some h) (f .fills (f .some h)) (f .end-inside))
+      ∙ walk-turned (orderOf s) firstPlace (regionOf s) xs (f .complete) (f .spans) (f .region h) (f .some h) (f .few)
 
   extensions-are : extensionsOf (layoutOf swapped) swapped ≡ listed xs
-  extensions-are = extensions-by lists refl
+  extensions-are = by (hasExtensions s) refl
+    where
+      by : (t : Bool) → hasExtensions s ≡ t → extensionsOf (layoutOf swapped) swapped ≡ listed xs
+      by true h = rw (some-is, h) (walked h)
+      by false h = rw (some-is, h) (ap listed (sym (f .none h)))
 
-  pub judged-is : judgement swapped ≡ listed xs
-  unfolding judgement
-  judged-is = (λ i. unlessRefused ((ap verdict rules-are ∙ judged-accepted s xs e) i) (extensions-are i))
+  pub swapped-file : AcceptedFile swapped xs
+  swapped-file = judged-file swapped xs (file-judged swapped xs rules-are extensions-are)
 
-  header-is : headerOf (orderOf swapped) (kindOf swapped) (length xs) (spansOf xs) swapped ≡ inOtherOrder (headerOf (orderOf s) (kindOf s) (length xs) (spansOf xs) s)
+  header-is : headerOf (orderOf swapped) (kindOf swapped) (length xs) (spansOf xs) swapped
+      ≡ inOrder (other (orderOf s)) (headerOf (orderOf s) (kindOf s) (length xs) (spansOf xs) s)
   header-is =
       (λ i. headerOf (order-is i) (kind-is i) (length xs) (spansOf xs) swapped)
-      ∙ header-same rest s room (orderOf s) (kindOf s) (length xs) (spansOf xs)
+      ∙ header-same rest s spans (orderOf s) (kindOf s) (length xs) (spansOf xs)
 
   pub reading-swapped : readingOf swapped ≡ readInOther (readingOf s)
-  unfolding readingOf
+  unfolding headerOf
   reading-swapped =
-      ap (readingBy swapped) judged-is
+      file-reads swapped xs swapped-file
       ∙ (λ i. record { verdict = Accepted; header = header-is i; image = imageOf (shape-is i) })
-      ∙ sym (ap (λ w. readInOther (readingBy s w)) e)
+      ∙ sym (ap readInOther (file-reads s xs f))

@@ -3,6 +3,7 @@
 -- bytes, payloads, an image file's front, bytes after the image." So a file is one list of runs (crate units); a run of width 1 stays,
 -- and so does what follows the last run.
 use Prim.Native.Nat.{ℕ, _-_, _/_, _≤_, _<_}
+use mathlib.Core.Path.{_≡_}
 use mathlib.Core.Bool.{Bool, cond}
 use mathlib.Core.List.{List, [], _∷_, _++_}
 use lib.IntN.{natAbs}
@@ -16,13 +17,18 @@ use Rattle.datatype.specs.declared.Datatype.{Datatype}
 use Rattle.datatype.specs.declared.Datatype.the-variants.{Known, Unknown}
 use Rattle.datatype.specs.Datatypes.{datatypeOf}
 use Rattle.extension.specs.declared.Span.{Span}
+use Rattle.extension.specs.declared.Listing.{Listing}
 use Rattle.extension.specs.Walk.{Walked, listed, stopped, firstPlace}
+use Rattle.extension.specs.Listing.{listingOf}
 use Rattle.extension.specs.Fills.{Fills}
 use Rattle.header.specs.declared.Kind.{Kind}
 use Rattle.header.specs.declared.Kind.the-variants.{Single, Pair}
 use Rattle.rules.specs.declared.Image.{Image}
-use Rattle.reader.specs.declared.Layout.{Layout}
-use Rattle.reader.specs.File.{imageCut, layoutOf, regionEnd, judgement}
+use Rattle.rules.specs.Rules.{imageCut, regionEnd}
+use Rattle.layout.specs.declared.Layout.{Layout}
+use Rattle.layout.specs.declared.Checked.the-variants.{Fits}
+use Rattle.layout.specs.File.{layoutOf, checkedOf}
+use Rattle.reader.specs.Reading.{extensionsOf, judgement}
 use Rattle.units.specs.Runs.{Run, run, turnRuns, headerRuns}
 
 -- the swap unit of a datatype; one that the table lacks is refused before anything is turned (rule 6)
@@ -97,7 +103,13 @@ swappedFile file image = turnedFile (swapList file image) (layoutOf file) file
 unfoldable pub swappedImage : List ℕ → List ℕ → List ℕ
 swappedImage file image = turnedImage (swapList file image) (layoutOf file) file image
 
--- ---- What the loop over the extensions needs
+-- ---- What the functions need
+
+-- a file that rules 1 to 15 pass, with its layout and the listing of its extensions
+pub record Listed (s : List ℕ) (layout : Layout) (listing : Listing) : Type 0 where
+  pub fits : checkedOf s ≡ Fits layout
+  pub lists : listing ≡ listingOf (extensionsOf layout s)
+  pub accepted : listing .verdict ≡ Accepted
 
 -- spans that stand one after the other from 352 on, in a file of `len` bytes
 pub record Placed (xs : List Span) (len : ℕ) : Type 0 where

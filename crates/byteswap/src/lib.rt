@@ -1,23 +1,24 @@
-// Swapping the byte order of a file in place, a pair's two buffers in one call (01-scope.md, "Voxels and byte order"): each number
-// of the header, the size and code of each extension, and each swap unit of the image is turned round; all else stays.
+// Swapping the byte order of a file in place, a pair's two buffers in one call (01-scope.md, "Voxels and byte order"):
+// each number of the header, the size and code of each extension, and each swap unit of the image is turned round; all
+// else stays.
 ghost use mathlib.Core.Path.{_≡_};
 ghost use Prim.Native.Nat.{_+_, _/_, _≤_};
 ghost use lib.ListN.{length, take};
-ghost use Rattle.refusal.specs.declared.Verdict.the-variants.{Accepted};
-ghost use Rattle.extension.specs.Listing.{listingOf};
-ghost use Rattle.extension.specs.Walk.{firstPlace};
-ghost use Rattle.reader.specs.declared.Checked.the-variants.{Fits};
-ghost use Rattle.reader.specs.File.{checkedOf, extensionsOf};
+ghost use Rattle.extension.specs.Walk.{extensionLimit, firstPlace};
+ghost use Rattle.layout.specs.declared.Checked.the-variants.{Fits};
+ghost use Rattle.layout.specs.File.{checkedOf};
 ghost use Rattle.units.specs.Units.{turnedAt};
 ghost use Rattle.units.specs.Runs.{turnRunsAt};
-ghost use Rattle.byteswap.specs.Swap.{unitIn, extensionRuns, Placed, swapAnswer, swappedFile, swappedImage};
+ghost use Rattle.byteswap.specs.Swap.{unitIn, extensionRuns, Placed, Listed};
+ghost use Rattle.byteswap.specs.Swap.{swapAnswer, swappedFile, swappedImage};
 use datatype::Datatype;
+use extension::LIMIT;
 use extension::Listing;
 use extension::Span;
 use field::Order;
 use header::Kind;
-use reader::Checked;
-use reader::Layout;
+use layout::Checked;
+use layout::Layout;
 use refusal::Refusal;
 use refusal::Verdict;
 use rules::Image;
@@ -34,8 +35,8 @@ fn unit_in(file: &[u8], order: Order) -> usize
 }
 
 // Turns round the size and code of each extension. The spans were read before anything was turned.
-fn turn_list(file: &mut [u8], count: usize, spans: [Span; 64])
-    requires { ⌜ (count ≤ 64) × Placed (take count spans) (length (now file)) ⌝ }
+fn turn_list(file: &mut [u8], count: usize, spans: [Span; LIMIT])
+    requires { ⌜ (count ≤ extensionLimit) × Placed (take count spans) (length (now file)) ⌝ }
     ensures { λ _. ⌜ now (file .exit) ≡ turnRunsAt firstPlace (extensionRuns (take count spans)) (now (file .entry)) ⌝ }
 {
     let mut k: usize = 0;
@@ -58,7 +59,7 @@ fn turn_image(buf: &mut [u8], image: Image, unit: usize)
 
 // Swaps a file that rules 1 to 15 pass.
 fn swap_listed(file: &mut [u8], image: &mut [u8], layout: Layout, listing: Listing) -> Verdict
-    requires { ⌜ (checkedOf (now file) ≡ Fits layout) × (listing ≡ listingOf (extensionsOf layout (now file))) × (listing .verdict ≡ Accepted) ⌝ }
+    requires { ⌜ Listed (now file) layout listing ⌝ }
     ensures { λ r.
         ⌜ (r ≡ swapAnswer (now (file .entry)) (now (image .entry)))
         × (now (file .exit) ≡ swappedFile (now (file .entry)) (now (image .entry)))
@@ -68,7 +69,7 @@ fn swap_listed(file: &mut [u8], image: &mut [u8], layout: Layout, listing: Listi
     let kind = layout.kind;
     let place = layout.image;
     let spans = listing.spans;
-    if reader::image_cut(kind, image.len(), place) {
+    if rules::image_cut(kind, image.len(), place) {
         return Verdict::Refused(Refusal {
             number: 16,
             place: 0,
@@ -105,14 +106,15 @@ fn swap_checked(file: &mut [u8], image: &mut [u8], layout: Layout) -> Verdict
     }
 }
 
-// Swaps the byte order of a file and, of a pair, of its image file. A refused file is left as it is, and so is its image file.
+// Swaps the byte order of a file and, of a pair, of its image file. A refused file is left as it is, and so is its
+// image file.
 pub fn swap(file: &mut [u8], image: &mut [u8]) -> Verdict
     ensures { λ r.
         ⌜ (r ≡ swapAnswer (now (file .entry)) (now (image .entry)))
         × (now (file .exit) ≡ swappedFile (now (file .entry)) (now (image .entry)))
         × (now (image .exit) ≡ swappedImage (now (file .entry)) (now (image .entry))) ⌝ }
 {
-    let checked = reader::check(file);
+    let checked = layout::check(file);
     match checked {
         Checked::Breaks(r) => Verdict::Refused(r),
         Checked::Fits(layout) => swap_checked(file, image, layout),

@@ -22,8 +22,10 @@ same-length c = search needs
 
 returns : tie.Need-returns
 returns c =
-    let a = c .before .before .before .before .before .before .before .args in
-    swaps-broken (a .file .now) (a .image .now) (c .before .checked .given .0 .0) (sym (c .before .before .before .check .ensures) ∙ c .before .checked .given .1)
+    let breaks = c .before .checked .given in
+    let check = c .before .before .before in
+    let a = check .before .before .before .before .args in
+    swaps-broken (a .file .now) (a .image .now) (breaks .0 .0) (sym (check .check .ensures) ∙ breaks .1)
 
 same-length-2 : tie.Need-same-length-2
 same-length-2 c = search needs

@@ -21,10 +21,12 @@ same-length c = search needs
 
 returns : tie.Need-returns
 returns c =
-    let k = c .before .before .before in
-    let S = c .before .before .before .before .before .before .before in
-    let a = S .args in
-    swaps-refused (a .file .now) (a .image .now) (c .before .verdict .given .0 .0) (a .layout) (S .pre) (k .list-in .result) (k .list-in .ensures) (c .before .verdict .given .1)
+    let refused = c .before .verdict .given in
+    let list = c .before .before .before in
+    let start = list .before .before .before .before in
+    let a = start .args in
+    swaps-refused (a .file .now) (a .image .now) (refused .0 .0) (a .layout) (start .pre) (list .list-in .result) (list .list-in .ensures)
+    (refused .1)
 
 same-length-2 : tie.Need-same-length-2
 same-length-2 c = search needs

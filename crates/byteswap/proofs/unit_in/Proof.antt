@@ -24,16 +24,21 @@ enum-told : tie.Need-enum-told
 enum-told c = search needs
 
 -- the code that is looked up is the file's
-code : (c : tie.After-read-i16) → toZ w16 (ofZ w16 (c .read-i16 .result)) ≡ i16At (c .before .before .args .order) (now (c .before .before .args .file)) 70
+code : (c : tie.After-read-i16)
+    → toZ w16 (ofZ w16 (c .read-i16 .result)) ≡ i16At (c .before .before .args .order) (now (c .before .before .args .file)) 70
 code c = toZ-ofZ w16 (c .read-i16 .result) (record { sfits = c .read-i16 .ok }) ∙ c .read-i16 .ensures
 
 returns : tie.Need-returns
 unfolding unitIn
-returns c = ap unitOf (sym (c .before .datatype .given .1) ∙ c .before .before .before .datatype-of .ensures ∙ ap datatypeOf (code (c .before .before .before .before)))
+returns c =
+    let d = c .before .before .before in
+    ap unitOf (sym (c .before .datatype .given .1) ∙ d .datatype-of .ensures ∙ ap datatypeOf (code (d .before)))
 
 returns-2 : tie.Need-returns-2
 unfolding unitIn
-returns-2 c = ap unitOf (sym (c .enum-told .given .1) ∙ c .before .before .datatype-of .ensures ∙ ap datatypeOf (code (c .before .before .before)))
+returns-2 c =
+    let d = c .before .before in
+    ap unitOf (sym (c .enum-told .given .1) ∙ d .datatype-of .ensures ∙ ap datatypeOf (code (d .before)))
 
 pub unit-in-spec : {M : Type 1} → statement M
 unit-in-spec =
