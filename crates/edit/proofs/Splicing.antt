@@ -35,31 +35,6 @@ use Rattle.edit_plan.proofs.Cutting.{opens}
 use Rattle.edit_plan.proofs.Planning.{length-extender, length-new, length-fresh, outBytes, places, out-inside, end-new, whole-new}
 use Rattle.edit_plan.proofs.Deciding.{Allowed}
 
--- ---- the new list
-
-brought-whole : (order : Order) (change : Change) (code : ℤ) (p : List ℕ) → SFits w32 code → offersNegative change code ≡ false
-    → newSize change (length p) < 2147483648 → Wholes order (broughtIn order change code p)
-brought-whole order Append code p f n h = one (stored-whole order code p f n h) none
-brought-whole order (Replace k) code p f n h = one (stored-whole order code p f n h) none
-brought-whole order (Remove k) code p f n h = none
-
--- its extensions are whole
-pub edited-whole : (f : List ℕ) (room : ℕ) (change : Change) (code : ℤ) (p : List ℕ) → SFits w32 code → Allowed f room change code p
-    → Wholes (orderOf f) (editedList f change code p)
-unfolding editedList
-edited-whole f room change code p fits a =
-    let k = a .known in
-    let e = end-new f change (k .present) (k .cut) code p in
-    wholes-exchange (extensionList f) (broughtIn (orderOf f) change code p) (outFrom change (length (extensionList f))) (outTo change (length (extensionList f)))
-    (opens f (a .spans) (a .judged) .wholes) (brought-whole (orderOf f) change code p fits (k .offered) (omega (arith, a .end-limit, e)))
-
--- its extender, told by where the region ends
-extender-is : {order : Order} {xs : List (List ℕ)} → Wholes order xs → extenderBytes (endFor xs) ≡ extenderFor xs
-extender-is none = refl
-extender-is (one {x} {xs} w ws) =
-    let s : 16 ≤ length (joined (x ∷ xs)) = joined-some (one w ws) (omega arith) in
-    rw (lt-ltb firstPlace (endFor (x ∷ xs)) (omega arith))
-
 -- ---- the fresh file's bytes
 
 -- extensions exchanged in a file of a front h, extensions and a tail t
@@ -78,27 +53,6 @@ module _ (h : List ℕ) (xs ys : List (List ℕ)) (t : List ℕ) (i j : ℕ) (fr
       let ta : take at (h ++ r) ≡ h ++ take a (joined xs) = rw (pa, take-append-add h r a, take-append-le a (joined xs) t (omega arith)) in
       let db : drop (at + old) (h ++ r) ≡ drop b (joined xs) ++ t = rw (pb, drop-append-add h r b, drop-append-le b (joined xs) t lb) in
       rw (ta, db, joined-exchange xs ys i j a b refl refl) (simp append-assoc)
-
--- the extender, written between the header and the list
-extended : (h x e r : List ℕ) → length h ≡ 348 → length x ≡ 4 → length e ≡ 4 → put ((h ++ x) ++ r) 348 e ≡ h ++ (e ++ r)
-unfolding put
-extended h x e r lh lx le =
-    let n : 348 + length e ≡ 352 = omega arith in
-    let k : length (h ++ x) ≡ 352 = length-append h x ∙ omega arith in
-    rw (n, drop-at (h ++ x) r 352 k, append-assoc, take-at h (x ++ r) 348 lh)
-
-headed : (kind : Kind) (order : Order) (end : ℕ) (h r : List ℕ) → 112 ≤ length h → headFor kind order end (h ++ r) ≡ headFor kind order end h ++ r
-headed Single order end h r l =
-    let b = length-bytesOf order 4 (offsetBits end) in
-    put-append h 108 (bytesOf order 4 (offsetBits end)) r (omega arith)
-headed Pair order end h r l = refl
-
-headed-settled : (kind : Kind) (order : Order) (end : ℕ) (l : List ℕ) (len : ℕ) (g : List ℕ) → 112 ≤ length g
-    → headFor kind order end (settled l len g) ≡ settled l len (headFor kind order end g)
-headed-settled Single order end l len g h =
-    let b = length-bytesOf order 4 (offsetBits end) in
-    settled-put l len g 108 (bytesOf order 4 (offsetBits end)) (omega arith)
-headed-settled Pair order end l len g h = refl
 
 -- a file shorter than the fresh one is settled over in the same way whatever its length
 settled-longer : (l : List ℕ) (len : ℕ) (g : List ℕ) → firstPlace ≤ length g → settled l (max len firstPlace) g ≡ settled l len g

@@ -4,3 +4,4 @@ pub mod Sizing
 pub mod Cutting
 pub mod Planning
 pub mod Deciding
+pub mod Theorems

@@ -15,7 +15,8 @@ use Rattle.extension.specs.Pieces.{pieces}
 use Rattle.header.specs.declared.Kind.{Kind}
 use Rattle.header.specs.declared.Kind.the-variants.{Single, Pair}
 use Rattle.rules.specs.Rules.{imageOf}
-use Rattle.reader.specs.File.{orderOf, kindOf, shapeOf, regionEnd, judgement, noExtensions, someExtensions}
+use Rattle.layout.specs.File.{orderOf, kindOf, shapeOf, noExtensions, someExtensions, endOf}
+use Rattle.reader.specs.Reading.{judgement}
 use Rattle.buffer.specs.Put.{put}
 use Rattle.edit_plan.specs.declared.Change.{Change}
 use Rattle.edit_plan.specs.declared.Change.the-variants.{Append, Replace, Remove}
@@ -31,10 +32,6 @@ stored order code p =
     ++ (bytesOf order 4 (ofZ w32 code)
     ++ (p
     ++ replicate (sizeFor (length p) - (length p + 8)) 0))
-
--- the region of the extensions "ends at vox_offset (single) or the file's end (pair)"
-unfoldable pub endOf : List ℕ → ℕ
-endOf f = regionEnd (kindOf f) (imageOf (shapeOf f)) (length f)
 
 abbrev pub spansIn : Walked → List Span
 spansIn (listed xs) = xs
@@ -80,9 +77,9 @@ editedList f change code p =
     (broughtIn (orderOf f) change code p)
 
 -- "A list left empty gives a zero extender ..; otherwise the extender is 1,0,0,0."
-abbrev pub extenderFor : List (List ℕ) → List ℕ
-extenderFor [] = noExtensions
-extenderFor (x ∷ xs) = someExtensions
+abbrev pub extenderFor : List ℕ → List (List ℕ) → List ℕ
+extenderFor f [] = noExtensions
+extenderFor f (x ∷ xs) = someExtensions
 
 -- where the region of a list ends: "352 plus the new list's bytes"
 abbrev pub endFor : List (List ℕ) → ℕ
@@ -96,7 +93,7 @@ headFor Pair order end h = h
 
 -- "The fresh file is H, the extender for the new list, the new list joined, then T"; "H is the old file's first 348 bytes"
 unfoldable pub freshFile : List ℕ → List (List ℕ) → List ℕ
-freshFile f xs = headFor (kindOf f) (orderOf f) (endFor xs) (take 348 f) ++ (extenderFor xs ++ (joined xs ++ tailOf f))
+freshFile f xs = headFor (kindOf f) (orderOf f) (endFor xs) (take 348 f) ++ (extenderFor f xs ++ (joined xs ++ tailOf f))
 
 abbrev pub freshOf : List ℕ → Change → ℤ → List ℕ → List ℕ
 freshOf f change code p = freshFile f (editedList f change code p)

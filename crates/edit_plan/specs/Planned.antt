@@ -1,7 +1,7 @@
 -- What is known of an edit before the first byte is stored: its refusal, or the numbers that it is carried out by. The promises
 -- of append, replace and remove do not speak of these; they are the promises of the steps between.
 use Prim.Native.Nat.{ℕ, _+_, _-_}
-use mathlib.Core.Bool.{Bool, false, cond, _&&_}
+use mathlib.Core.Bool.{Bool, false, _&&_}
 use mathlib.Core.List.{List}
 use lib.Dec.{leb, ltb, eqb}
 use lib.IntN.{ℤ}
@@ -9,12 +9,11 @@ use lib.ListN.{length, take, getD}
 use mir.Syntax.{w32}
 use mir.Val.{ofZ}
 use Rattle.field.specs.Numbers.{joined}
-use Rattle.refusal.specs.declared.Verdict.{Verdict}
-use Rattle.refusal.specs.declared.Verdict.the-variants.{Accepted, Refused}
+use Rattle.refusal.specs.Table.{decided}
 use Rattle.extension.specs.declared.Span.{Span}
 use Rattle.extension.specs.Walk.{extensionLimit, firstPlace}
 use Rattle.extension.specs.Listing.{noSpan}
-use Rattle.reader.specs.File.{orderOf, kindOf, noExtensions, someExtensions}
+use Rattle.layout.specs.File.{orderOf, kindOf}
 use Rattle.edit_plan.specs.declared.Change.{Change}
 use Rattle.edit_plan.specs.declared.Change.the-variants.{Append, Replace, Remove}
 use Rattle.edit_plan.specs.declared.Slot.{Slot}
@@ -51,13 +50,17 @@ newSize Append n = sizeFor n
 newSize (Replace k) n = sizeFor n
 newSize (Remove k) n = 0
 
--- the extender by where the region ends
-abbrev pub extenderBytes : ℕ → List ℕ
-extenderBytes end = cond (ltb firstPlace end) someExtensions noExtensions
+-- sizes above this are not told apart: rule 21 refuses them all
+abbrev pub sizeCap : ℕ
+sizeCap = 134217744
 
 -- how many bytes the extensions before the i-th take
 abbrev pub bytesBefore : List ℕ → ℕ → ℕ
 bytesBefore f i = length (joined (take i (extensionList f)))
+
+-- how many bytes go out
+abbrev pub bytesOut : List ℕ → Change → ℕ
+bytesOut f change = bytesBefore f (outTo change (length (extensionList f))) - bytesBefore f (outFrom change (length (extensionList f)))
 
 -- the place where extensions go out, the bytes that go out there, those that come in, and where the region ends then
 unfoldable pub planOf : List ℕ → Change → ℤ → List ℕ → Plan
@@ -66,14 +69,10 @@ planOf f change code p =
       order = orderOf f;
       kind = kindOf f;
       at = firstPlace + bytesBefore f (outFrom change (length (extensionList f)));
-      old = bytesBefore f (outTo change (length (extensionList f))) - bytesBefore f (outFrom change (length (extensionList f)));
+      old = bytesOut f change;
       new = length (joined (broughtIn (orderOf f) change code p));
       end = endFor (editedList f change code p);
     }
 
-abbrev pub plannedBy : Verdict → Plan → Planned
-plannedBy Accepted x = Go x
-plannedBy (Refused r) x = Stop r
-
 unfoldable pub plannedOf : List ℕ → ℕ → Change → ℤ → List ℕ → Planned
-plannedOf f room change code p = plannedBy (changeVerdict f room change code p) (planOf f change code p)
+plannedOf f room change code p = decided (changeVerdict f room change code p) (Go (planOf f change code p)) Stop

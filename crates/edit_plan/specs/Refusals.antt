@@ -8,15 +8,14 @@ use lib.IntN.{ℤ, pos}
 use lib.ListN.{length}
 use lib.Signed.{ltZ}
 use Rattle.refusal.specs.declared.Verdict.{Verdict}
-use Rattle.refusal.specs.declared.Verdict.the-variants.{Accepted, Refused}
-use Rattle.refusal.specs.Table.{Row, row, verdict}
+use Rattle.refusal.specs.Table.{Row, row, verdict, then}
 use Rattle.offset.specs.Offset.{offsetLimit}
 use Rattle.extension.specs.Walk.{extensionLimit, firstPlace}
-use Rattle.reader.specs.File.{hasNone}
+use Rattle.layout.specs.File.{hasExtensions, endOf}
 use Rattle.reader.specs.Reading.{readingOf}
 use Rattle.edit_plan.specs.declared.Change.{Change}
 use Rattle.edit_plan.specs.declared.Change.the-variants.{Append, Replace, Remove}
-use Rattle.edit_plan.specs.Fresh.{endOf, extensionList, editedList, endFor, freshOf}
+use Rattle.edit_plan.specs.Fresh.{extensionList, editedList, endFor, freshOf}
 
 -- rule 18: "no extension with that number (first is 0)", in a list of n
 abbrev pub missingIn : Change → ℕ → Bool
@@ -32,7 +31,7 @@ offersNegative (Remove k) code = false
 
 -- rule 20: "append where the extender is zero and bytes already follow 352 before the end of the extension region"
 abbrev pub entersPrivate : Change → List ℕ → Bool
-entersPrivate Append f = hasNone f && ltb firstPlace (endOf f)
+entersPrivate Append f = not (hasExtensions f) && ltb firstPlace (endOf f)
 entersPrivate (Replace k) f = false
 entersPrivate (Remove k) f = false
 
@@ -50,11 +49,6 @@ changeRows f room change code p =
     ∷ row 22 (ltb room (length (freshOf f change code p))) 0
     ∷ []
 
--- a verdict, and where it accepts, the next one
-abbrev pub onward : Verdict → Verdict → Verdict
-onward Accepted v = v
-onward (Refused r) v = Refused r
-
 -- "Checks run in number order": reading's 1 to 15 of the old file, then the edit's own
 unfoldable pub changeVerdict : List ℕ → ℕ → Change → ℤ → List ℕ → Verdict
-changeVerdict f room change code p = onward (readingOf f .verdict) (verdict (changeRows f room change code p))
+changeVerdict f room change code p = then (readingOf f .verdict) (verdict (changeRows f room change code p))

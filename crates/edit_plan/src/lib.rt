@@ -1,33 +1,23 @@
-// Whether an edit of the extensions is refused, and the numbers that it is carried out by (01-scope.md, "Extensions", rules
-// 18 to 22). Nothing is stored here: an edit is judged whole before its first byte is.
+// Whether an edit of the extensions is refused, and the numbers that it is carried out by (01-scope.md, "Extensions",
+// rules 18 to 22). Nothing is stored here: an edit is judged whole before its first byte is.
 ghost use mathlib.Core.Path.{_≡_};
-ghost use Prim.Native.Nat.{min, max};
-ghost use lib.ListN.{getD};
-ghost use mir.Syntax.{w32};
-ghost use mir.Val.{ofZ};
+ghost use Prim.Native.Nat.{min};
 ghost use Rattle.refusal.specs.Table.{refusal};
-ghost use Rattle.refusal.specs.declared.Verdict.the-variants.{Accepted};
-ghost use Rattle.extension.specs.Listing.{noSpan};
-ghost use Rattle.reader.specs.File.{regionEnd};
-ghost use Rattle.reader.specs.Reading.{readingOf};
+ghost use Rattle.reader.specs.Reading.{readingOf, IsAccepted};
 ghost use Rattle.edit_plan.specs.Fresh.{sizeFor};
 ghost use Rattle.edit_plan.specs.Refusals.{missingIn, offersNegative};
-ghost use Rattle.edit_plan.specs.Planned.{slotOf, newSize, tooMany, entersBytes, plannedOf};
+ghost use Rattle.edit_plan.specs.Planned.{slotAt, slotOf, newSize, sizeCap, tooMany, entersBytes, plannedOf};
+use extension::FIRST;
+use extension::LIMIT;
 use extension::Span;
 use field::Order;
 use header::Kind;
 use reader::Reading;
 use refusal::Refusal;
 use refusal::Verdict;
-use rules::Image;
 
-// Where the extensions begin, and the most that a file may have.
-pub const FIRST: usize = 352;
-
-const SPANS: usize = 64;
-
-// Where the region of the extensions may end at most.
-const FARTHEST: usize = 134_217_728;
+// Sizes above this are not told apart: rule 21 refuses them all.
+const CAP: usize = 134_217_744;
 
 // Which edit: after the last extension, in the place of a numbered one (the first is 0), or taking that one out.
 pub enum Change {
@@ -58,23 +48,6 @@ pub enum Planned {
     Stop(Refusal),
 }
 
-// The greater of two numbers.
-pub fn greater(a: usize, b: usize) -> usize
-    ensures { λ r. ⌜ r ≡ max a b ⌝ }
-{
-    if a < b { b } else { a }
-}
-
-// Where the region of the extensions ends, 352 at the least: a header file of 348 bytes has room for an extender.
-fn region_end(kind: Kind, image: Image, len: usize) -> usize
-    ensures { λ r. ⌜ r ≡ max (regionEnd kind image len) 352 ⌝ }
-{
-    match kind {
-        Kind::Single => greater(image.offset as usize, FIRST),
-        Kind::Pair => greater(len, FIRST),
-    }
-}
-
 // Rule 18, in a list of `count`.
 fn is_missing(change: Change, count: usize) -> bool
     ensures { λ r. ⌜ r ≡ missingIn change count ⌝ }
@@ -97,7 +70,7 @@ fn offers_negative(change: Change, code: i32) -> bool
     }
 }
 
-// Rule 20: with a zero extender there are no extensions, and with 1,0,0,0 there are some.
+// Rule 20: with 1,0,0,0 as the extender there are extensions, and with a zero one there are none.
 fn enters_bytes(change: Change, count: usize, end: usize) -> bool
     ensures { λ r. ⌜ r ≡ entersBytes change count end ⌝ }
 {
@@ -113,30 +86,26 @@ fn is_too_many(change: Change, count: usize) -> bool
     ensures { λ r. ⌜ r ≡ tooMany change count ⌝ }
 {
     match change {
-        Change::Append => SPANS <= count,
+        Change::Append => LIMIT <= count,
         Change::Replace(_) => false,
         Change::Remove(_) => false,
     }
 }
 
 // Where a numbered extension is.
-fn slot_at(spans: [Span; SPANS], k: usize) -> Slot
-    ensures { λ r. ⌜ (r .at ≡ getD spans k noSpan .start) × (r .old ≡ ofZ w32 (getD spans k noSpan .size)) ⌝ }
+fn slot_at(spans: [Span; LIMIT], k: usize) -> Slot
+    ensures { λ r. ⌜ r ≡ slotAt spans k ⌝ }
 {
-    if k < SPANS {
-        let span = spans[k];
-        Slot {
-            at: span.start,
-            old: field::bits32(span.size) as usize,
-        }
-    } else {
-        Slot { at: 0, old: 0 }
+    let span = extension::span_at(spans, k);
+    Slot {
+        at: span.start,
+        old: field::bits32(span.size) as usize,
     }
 }
 
 // Where extensions go out, in a list that ends at `end`.
-fn slot_for(change: Change, spans: [Span; SPANS], end: usize) -> Slot
-    ensures { λ r. ⌜ (r .at ≡ slotOf change spans end .at) × (r .old ≡ slotOf change spans end .old) ⌝ }
+fn slot_for(change: Change, spans: [Span; LIMIT], end: usize) -> Slot
+    ensures { λ r. ⌜ r ≡ slotOf change spans end ⌝ }
 {
     match change {
         Change::Append => Slot { at: end, old: 0 },
@@ -145,12 +114,12 @@ fn slot_for(change: Change, spans: [Span; SPANS], end: usize) -> Slot
     }
 }
 
-// The bytes of an extension with a payload of n bytes. Above the limit of rule 21 the sizes are not told apart.
+// The bytes of an extension with a payload of n bytes, as far as they are told apart.
 fn size_for(n: usize) -> usize
-    ensures { λ r. ⌜ r ≡ min (sizeFor n) 134217744 ⌝ }
+    ensures { λ r. ⌜ r ≡ min (sizeFor n) sizeCap ⌝ }
 {
-    if FARTHEST < n {
-        134_217_744
+    if offset::LIMIT < n as u64 {
+        CAP
     } else {
         (n + 23) / 16 * 16
     }
@@ -158,7 +127,7 @@ fn size_for(n: usize) -> usize
 
 // How many bytes come in.
 fn new_size(change: Change, n: usize) -> usize
-    ensures { λ r. ⌜ r ≡ min (newSize change n) 134217744 ⌝ }
+    ensures { λ r. ⌜ r ≡ min (newSize change n) sizeCap ⌝ }
 {
     match change {
         Change::Append => size_for(n),
@@ -173,7 +142,8 @@ fn stop(number: u64) -> Planned
     Planned::Stop(Refusal { number, place: 0 })
 }
 
-// Rules 18 to 22, of a file that reading accepts.
+// Rules 18 to 22, of a file that reading accepts. A header file of 348 bytes has no extender, and an edit gives it one:
+// its region ends at 352 at the least.
 fn plan_list(
     file: &[u8],
     reading: Reading,
@@ -182,7 +152,7 @@ fn plan_list(
     code: i32,
     payload: &[u8],
 ) -> Planned
-    requires { ⌜ (reading ≡ readingOf (now file)) × (reading .verdict ≡ Accepted) ⌝ }
+    requires { ⌜ (reading ≡ readingOf (now file)) × IsAccepted (now file) ⌝ }
     ensures { λ r. ⌜ r ≡ plannedOf (now (file .entry)) room change code (now (payload .entry)) ⌝ }
 {
     let header = reading.header;
@@ -191,7 +161,7 @@ fn plan_list(
     let kind = header.kind;
     let count = header.count;
     let spans = header.spans;
-    let end = region_end(kind, image, file.len());
+    let end = number::greater(rules::region_end(kind, image, file.len()), FIRST);
     if is_missing(change, count) {
         return stop(18);
     }
@@ -206,10 +176,10 @@ fn plan_list(
     let old = out.old;
     let new = new_size(change, payload.len());
     let next = end - old + new;
-    if is_too_many(change, count) | (FARTHEST < next) {
+    if is_too_many(change, count) | (offset::LIMIT < next as u64) {
         return stop(21);
     }
-    if room < greater(file.len(), FIRST) - old + new {
+    if room < number::greater(file.len(), FIRST) - old + new {
         return stop(22);
     }
     Planned::Go(Plan {

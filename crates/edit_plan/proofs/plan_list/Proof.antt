@@ -1,60 +1,105 @@
 -- `plan_list` meets its contract: each return is one law of proofs/Deciding.antt.
+use Prim.Native.Nat.{ℕ, max}
+use mathlib.Core.Path.{_≡_, sym, ap, _∙_}
 use mathlib.Core.Bool.{Bool}
-use mir.Syntax.{w32}
-use mir.ValLaws.{toZ-ofZ}
-use Rattle.edit_plan.specs.Refusals.{offersNegative}
-use Prim.Native.Nat.{ℕ}
-use mathlib.Core.Path.{_≡_, sym, _∙_}
 use mathlib.Core.List.{List}
 use native.Mathlib.Omega.{arith}
 use denote.Ref.{now}
+use lib.IntN.{ℤ}
+use lib.ListN.{length}
+use mir.Syntax.{w32}
+use mir.ValLaws.{toZ-ofZ}
+use Rattle.extension.specs.Walk.{firstPlace}
+use Rattle.rules.specs.Rules.{regionEnd}
+use Rattle.reader.specs.declared.Reading.{Reading}
 use Rattle.edit_plan.specs.declared.Change.{Change}
+use Rattle.edit_plan.specs.Refusals.{missingIn, offersNegative}
+use Rattle.edit_plan.specs.Planned.{entersBytes}
 use Rattle.edit_plan.proofs.Planning.{out-inside}
 use Rattle.edit_plan.proofs.Deciding.{Past, Numbers, past, numbers, on-18, on-19, on-20, on-21, on-22, on-go}
 use borrow.Author.Needs.{needs}
 use Rattle.edit_plan.proofs.plan_list.Statement.{statement}
 use Rattle.edit_plan.proofs.plan_list.Tie as tie
 
--- the file, the edit and the numbers, once all of them are known
-abbrev file-at : tie.After-new-size → List ℕ
-file-at c = now (c .before .before .before .before .before .before .before .before .before .before .before .before .before .before .args .file)
+-- ---- the arguments, at the place where the region's end is known
 
-abbrev change-at : tie.After-new-size → Change
-change-at c = c .before .before .before .before .before .before .before .before .before .before .before .before .before .before .args .change
+abbrev start-at : tie.After-greater → tie.Start
+start-at g = g .before .before .before .before .before .before .before
 
-abbrev end-at : tie.After-new-size → ℕ
-end-at c = c .before .before .before .before .before .before .before .before .region-end .result
+abbrev file-at : tie.After-greater → List ℕ
+file-at g = now (start-at g .args .file)
 
-abbrev place-at : tie.After-new-size → ℕ
-place-at c = c .before .slot-for .result .at
+abbrev reading-at : tie.After-greater → Reading
+reading-at g = start-at g .args .reading
 
-abbrev old-at : tie.After-new-size → ℕ
-old-at c = c .before .slot-for .result .old
+abbrev room-at : tie.After-greater → ℕ
+room-at g = start-at g .args .room
 
-abbrev new-at : tie.After-new-size → ℕ
-new-at c = c .new-size .result
+abbrev change-at : tie.After-greater → Change
+change-at g = start-at g .args .change
 
--- a signed argument, as it is passed on
-negative-at : (c : tie.After-offers-negative) {t : Bool} → c .offers-negative .result ≡ t → offersNegative (c .before .before .before .before .before .before .before .before .before .args .change) (c .before .before .before .before .before .before .before .before .before .args .code) ≡ t
-negative-at c e = rw (toZ-ofZ w32 (c .before .before .before .before .before .before .before .before .before .args .code) (c .before .before .before .before .before .before .before .before .before .fits .code)) at (sym (c .offers-negative .ensures) ∙ e)
+abbrev code-at : tie.After-greater → ℤ
+code-at g = start-at g .args .code
 
-past-at : (c : tie.After-new-size) → Past (file-at c) (change-at c) (c .before .before .before .before .before .before .before .before .before .before .before .before .before .before .args .code)
+abbrev payload-at : tie.After-greater → List ℕ
+payload-at g = now (start-at g .args .payload)
+
+-- ---- what each test told
+
+region-at : (g : tie.After-greater)
+    → g .greater .result ≡ max (regionEnd (reading-at g .header .kind) (reading-at g .image) (length (file-at g))) firstPlace
+region-at g = g .greater .ensures ∙ ap (λ (n : ℕ). max n firstPlace) (g .before .region-end .ensures)
+
+missing-at : (m : tie.After-is-missing) {t : Bool} → m .is-missing .result ≡ t
+    → missingIn (change-at (m .before)) (reading-at (m .before) .header .count) ≡ t
+missing-at m e = sym (m .is-missing .ensures) ∙ e
+
+negative-at : (n : tie.After-offers-negative) {t : Bool} → n .offers-negative .result ≡ t
+    → offersNegative (change-at (n .before .before .before)) (code-at (n .before .before .before)) ≡ t
+negative-at n e =
+    let s = start-at (n .before .before .before) in
+    rw (toZ-ofZ w32 (s .args .code) (s .fits .code)) at (sym (n .offers-negative .ensures) ∙ e)
+
+abbrev tested-at : tie.After-enters-bytes → tie.After-greater
+tested-at b = b .before .before .before .before .before
+
+enters-at : (b : tie.After-enters-bytes) {t : Bool} → b .enters-bytes .result ≡ t
+    → entersBytes (change-at (tested-at b)) (reading-at (tested-at b) .header .count)
+    (max (regionEnd (reading-at (tested-at b) .header .kind) (reading-at (tested-at b) .image) (length (file-at (tested-at b)))) firstPlace)
+    ≡ t
+enters-at b e = rw (region-at (tested-at b)) at (sym (b .enters-bytes .ensures) ∙ e)
+
+-- ---- past rules 18 to 20, once all numbers are known
+
+abbrev numbered-at : tie.After-new-size → tie.After-greater
+numbered-at c = c .before .before .before .before .before .before .before .before
+
+past-at : (c : tie.After-new-size) → Past (file-at (numbered-at c)) (change-at (numbered-at c)) (code-at (numbered-at c))
 past-at c =
-    let s = c .before .before .before .before .before .before .before .before .before .before .before .before .before .before in
-    let a = s .args in
-    let f = now (a .file) in
-    past f (a .room) (a .change) (a .code) (now (a .payload)) (a .reading) (s .pre .0) (s .pre .1) (sym (c .before .before .before .before .before .before .before .is-missing .ensures) ∙ c .before .before .before .before .before .before .if1 .left) (negative-at (c .before .before .before .before .before) (c .before .before .before .before .if2 .left))
-    (rw (c .before .before .before .before .before .before .before .before .region-end .ensures) at (sym (c .before .before .before .enters-bytes .ensures) ∙ c .before .before .if3 .left))
+    let g = numbered-at c in
+    let s = start-at g in
+    past (file-at g) (room-at g) (change-at g) (code-at g) (payload-at g) (reading-at g) (s .pre .0) (s .pre .1)
+    (missing-at (c .before .before .before .before .before .before .before) (c .before .before .before .before .before .before .if1 .left))
+    (negative-at (c .before .before .before .before .before) (c .before .before .before .before .if2 .left))
+    (enters-at (c .before .before .before) (c .before .before .if3 .left))
 
-numbers-at : (c : tie.After-new-size) → Numbers (file-at c) (change-at c) (now (c .before .before .before .before .before .before .before .before .before .before .before .before .before .before .args .payload)) (end-at c) (place-at c) (old-at c) (new-at c)
+abbrev Numbers-at : tie.After-new-size → Type 0
+Numbers-at c =
+    Numbers (file-at (numbered-at c)) (change-at (numbered-at c)) (payload-at (numbered-at c)) (numbered-at c .greater .result)
+    (c .before .slot-for .result .at) (c .before .slot-for .result .old) (c .new-size .result)
+
+numbers-at : (c : tie.After-new-size) → Numbers-at c
 numbers-at c =
-    let s = c .before .before .before .before .before .before .before .before .before .before .before .before .before .before in
-    let a = s .args in
-    let f = now (a .file) in
-    numbers f (a .room) (a .change) (a .code) (now (a .payload)) (a .reading) (s .pre .0) (s .pre .1) (past-at c) (end-at c) (place-at c) (old-at c) (new-at c) (c .before .before .before .before .before .before .before .before .region-end .ensures) (c .before .slot-for .ensures) (c .new-size .ensures)
+    let g = numbered-at c in
+    let s = start-at g in
+    numbers (file-at g) (room-at g) (change-at g) (code-at g) (payload-at g) (reading-at g) (s .pre .0) (s .pre .1) (past-at c)
+    (g .greater .result) (c .new-size .result) (c .before .slot-for .result) (region-at g) (c .before .slot-for .ensures) (c .new-size .ensures)
 
 region-end-requires : tie.Need-region-end-requires
 region-end-requires c κs = search needs
+
+greater-requires : tie.Need-greater-requires
+greater-requires c κs = search needs
 
 is-missing-requires : tie.Need-is-missing-requires
 is-missing-requires c κs = search needs
@@ -64,10 +109,12 @@ stop-requires c κs = search needs
 
 returns : tie.Need-returns
 returns c =
-    let s = c .before .before .before .before .before .before .before .before .before in
-    let a = s .args in
-    let f = now (a .file) in
-    c .stop .ensures ∙ on-18 f (a .room) (a .change) (a .code) (now (a .payload)) (a .reading) (s .pre .0) (s .pre .1) (sym (c .before .before .is-missing .ensures) ∙ c .before .if1 .taken)
+    let m = c .before .before in
+    let g = m .before in
+    let s = start-at g in
+    c .stop .ensures
+    ∙ on-18 (file-at g) (room-at g) (change-at g) (code-at g) (payload-at g) (reading-at g) (s .pre .0) (s .pre .1)
+    (missing-at m (c .before .if1 .taken))
 
 offers-negative-requires : tie.Need-offers-negative-requires
 offers-negative-requires c κs = search needs
@@ -77,11 +124,12 @@ stop-requires-2 c κs = search needs
 
 returns-2 : tie.Need-returns-2
 returns-2 c =
-    let s = c .before .before .before .before .before .before .before .before .before .before .before in
-    let a = s .args in
-    let f = now (a .file) in
+    let n = c .before .before in
+    let g = n .before .before .before in
+    let s = start-at g in
     c .stop2 .ensures
-    ∙ on-19 f (a .room) (a .change) (a .code) (now (a .payload)) (a .reading) (s .pre .0) (s .pre .1) (sym (c .before .before .before .before .is-missing .ensures) ∙ c .before .before .before .if1 .left) (negative-at (c .before .before) (c .before .if2 .taken))
+    ∙ on-19 (file-at g) (room-at g) (change-at g) (code-at g) (payload-at g) (reading-at g) (s .pre .0) (s .pre .1)
+    (missing-at (n .before .before) (n .before .if1 .left)) (negative-at n (c .before .if2 .taken))
 
 enters-bytes-requires : tie.Need-enters-bytes-requires
 enters-bytes-requires c κs = search needs
@@ -91,12 +139,13 @@ stop-requires-3 c κs = search needs
 
 returns-3 : tie.Need-returns-3
 returns-3 c =
-    let s = c .before .before .before .before .before .before .before .before .before .before .before .before .before in
-    let a = s .args in
-    let f = now (a .file) in
+    let b = c .before .before in
+    let n = b .before .before in
+    let g = tested-at b in
+    let s = start-at g in
     c .stop3 .ensures
-    ∙ on-20 f (a .room) (a .change) (a .code) (now (a .payload)) (a .reading) (s .pre .0) (s .pre .1) (sym (c .before .before .before .before .before .before .is-missing .ensures) ∙ c .before .before .before .before .before .if1 .left) (negative-at (c .before .before .before .before) (c .before .before .before .if2 .left))
-    (rw (c .before .before .before .before .before .before .before .region-end .ensures) at (sym (c .before .before .enters-bytes .ensures) ∙ c .before .if3 .taken))
+    ∙ on-20 (file-at g) (room-at g) (change-at g) (code-at g) (payload-at g) (reading-at g) (s .pre .0) (s .pre .1)
+    (missing-at (n .before .before) (n .before .if1 .left)) (negative-at n (b .before .if2 .left)) (enters-at b (c .before .if3 .taken))
 
 slot-for-requires : tie.Need-slot-for-requires
 slot-for-requires c κs = search needs
@@ -106,9 +155,10 @@ new-size-requires c κs = search needs
 
 sub-next : tie.Need-sub-next
 sub-next c =
+    let g = numbered-at c in
     let k = past-at c in
     let v = numbers-at c in
-    let o = out-inside (file-at c) (change-at c) (k .present) (k .cut) in
+    let o = out-inside (file-at g) (change-at g) (k .present) (k .cut) in
     omega (arith, v .end-is, v .old-is)
 
 add-next : tie.Need-add-next
@@ -126,23 +176,25 @@ stop-requires-4 c κs = search needs
 returns-4 : tie.Need-returns-4
 returns-4 c =
     let n = c .before .before .before in
-    let s = c .before .before .before .before .before .before .before .before .before .before .before .before .before .before .before .before .before in
-    let a = s .args in
-    let f = now (a .file) in
+    let g = numbered-at n in
+    let s = start-at g in
+    let out = n .before .slot-for .result in
     c .stop4 .ensures
-    ∙ on-21 f (a .room) (a .change) (a .code) (now (a .payload)) (a .reading) (s .pre .0) (s .pre .1) (past-at n) (end-at n) (place-at n) (old-at n) (new-at n) (numbers-at n)
+    ∙ on-21 (file-at g) (room-at g) (change-at g) (code-at g) (payload-at g) (reading-at g) (s .pre .0) (s .pre .1) (past-at n)
+    (g .greater .result) (out .at) (out .old) (n .new-size .result) (numbers-at n)
     (rw (c .before .before .is-too-many .ensures) at (c .before .if4 .taken))
 
-greater-requires : tie.Need-greater-requires
-greater-requires c κs = search needs
+greater-requires-2 : tie.Need-greater-requires-2
+greater-requires-2 c κs = search needs
 
 sub-if5 : tie.Need-sub-if5
 sub-if5 c =
     let n = c .before .before .before in
+    let g = numbered-at n in
     let k = past-at n in
     let v = numbers-at n in
-    let o = out-inside (file-at n) (change-at n) (k .present) (k .cut) in
-    omega (arith, v .old-is, k .cut .base, k .cut .whole, c .greater .ensures)
+    let o = out-inside (file-at g) (change-at g) (k .present) (k .cut) in
+    omega (arith, v .old-is, k .cut .base, k .cut .whole, c .greater2 .ensures)
 
 add-if5 : tie.Need-add-if5
 add-if5 c = search needs
@@ -153,27 +205,31 @@ stop-requires-5 c κs = search needs
 returns-5 : tie.Need-returns-5
 returns-5 c =
     let n = c .before .before .before .before .before in
-    let s = c .before .before .before .before .before .before .before .before .before .before .before .before .before .before .before .before .before .before .before in
-    let a = s .args in
-    let f = now (a .file) in
+    let g = numbered-at n in
+    let s = start-at g in
+    let out = n .before .slot-for .result in
     c .stop5 .ensures
-    ∙ on-22 f (a .room) (a .change) (a .code) (now (a .payload)) (a .reading) (s .pre .0) (s .pre .1) (past-at n) (end-at n) (place-at n) (old-at n) (new-at n) (numbers-at n)
-    (rw (c .before .before .before .before .is-too-many .ensures) at (c .before .before .before .if4 .left)) (rw (c .before .before .greater .ensures) at (c .before .if5 .taken))
+    ∙ on-22 (file-at g) (room-at g) (change-at g) (code-at g) (payload-at g) (reading-at g) (s .pre .0) (s .pre .1) (past-at n)
+    (g .greater .result) (out .at) (out .old) (n .new-size .result) (numbers-at n)
+    (rw (c .before .before .before .before .is-too-many .ensures) at (c .before .before .before .if4 .left))
+    (rw (c .before .before .greater2 .ensures) at (c .before .if5 .taken))
 
 returns-6 : tie.Need-returns-6
 returns-6 c =
     let n = c .before .before .before .before in
-    let s = c .before .before .before .before .before .before .before .before .before .before .before .before .before .before .before .before .before .before in
-    let a = s .args in
-    let f = now (a .file) in
-    on-go f (a .room) (a .change) (a .code) (now (a .payload)) (a .reading) (s .pre .0) (s .pre .1) (past-at n) (end-at n) (place-at n) (old-at n) (new-at n) (numbers-at n)
-    (rw (c .before .before .before .is-too-many .ensures) at (c .before .before .if4 .left)) (rw (c .before .greater .ensures) at (c .if5 .left))
+    let g = numbered-at n in
+    let s = start-at g in
+    let out = n .before .slot-for .result in
+    on-go (file-at g) (room-at g) (change-at g) (code-at g) (payload-at g) (reading-at g) (s .pre .0) (s .pre .1) (past-at n)
+    (g .greater .result) (out .at) (out .old) (n .new-size .result) (numbers-at n)
+    (rw (c .before .before .before .is-too-many .ensures) at (c .before .before .if4 .left)) (rw (c .before .greater2 .ensures) at (c .if5 .left))
 
 pub plan-list-spec : {M : Type 1} → statement M
 plan-list-spec =
     tie.close
     (tie.spec
     region-end-requires
+    greater-requires
     is-missing-requires
     stop-requires
     returns
@@ -190,7 +246,7 @@ plan-list-spec =
     is-too-many-requires
     stop-requires-4
     returns-4
-    greater-requires
+    greater-requires-2
     sub-if5
     add-if5
     stop-requires-5

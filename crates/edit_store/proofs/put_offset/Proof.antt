@@ -8,8 +8,8 @@ use Rattle.field.proofs.Stores.{length-bytesOf}
 use Rattle.offset.specs.Offset.{offsetBits}
 use Rattle.buffer.proofs.Laws.{sets-put}
 use borrow.Author.Needs.{needs}
-use Rattle.edit.proofs.put_offset.Statement.{statement}
-use Rattle.edit.proofs.put_offset.Tie as tie
+use Rattle.edit_store.proofs.put_offset.Statement.{statement}
+use Rattle.edit_store.proofs.put_offset.Tie as tie
 
 enum-told : tie.Need-enum-told
 enum-told c = search needs
@@ -33,9 +33,11 @@ returns : tie.Need-returns
 returns c =
     let s = c .before .before .before .before .before .before .before .before in
     let a = s .args in
+    let w = bytesOf (a .order) 4 (offsetBits (a .end)) in
     let b = length-bytesOf (a .order) 4 (offsetBits (a .end)) in
-    let e : c .before .before .put-u32 .last .0 ≡ sets (now (a .buf)) 108 (bytesOf (a .order) 4 (offsetBits (a .end))) = rw (c .before .before .before .encode .ensures) at (c .before .before .put-u32 .ensures) in
-    e ∙ sets-put (now (a .buf)) 108 (bytesOf (a .order) 4 (offsetBits (a .end))) (omega arith) ∙ rw (c .before .before .before .before .before .enum-told .given .1)
+    let e : c .before .before .put-u32 .last .0 ≡ sets (now (a .buf)) 108 w =
+    rw (c .before .before .before .encode .ensures) at (c .before .before .put-u32 .ensures) in
+    e ∙ sets-put (now (a .buf)) 108 w (omega arith) ∙ rw (c .before .before .before .before .before .enum-told .given .1)
 
 returns-2 : tie.Need-returns-2
 returns-2 c = search needs

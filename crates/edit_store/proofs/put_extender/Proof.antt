@@ -7,8 +7,8 @@ use Rattle.field.specs.declared.Order.the-variants.{Little}
 use Rattle.field.specs.Numbers.{bytesOf, padded}
 use Rattle.buffer.proofs.Laws.{sets-put}
 use borrow.Author.Needs.{needs}
-use Rattle.edit.proofs.put_extender.Statement.{statement}
-use Rattle.edit.proofs.put_extender.Tie as tie
+use Rattle.edit_store.proofs.put_extender.Statement.{statement}
+use Rattle.edit_store.proofs.put_extender.Tie as tie
 
 put-u32-requires : tie.Need-put-u32-requires
 put-u32-requires c κs = search needs
@@ -23,7 +23,9 @@ returns : tie.Need-returns
 unfolding bytesOf padded
 returns c =
     let a = c .before .before .before .before .before .before .args in
-    c .before .before .put-u32 .ensures ∙ sets-put (now (a .buf)) 348 (bytesOf Little 4 1) (omega arith) ∙ rw (lt-ltb 352 (a .end) (c .before .before .before .before .if1 .taken))
+    c .before .before .put-u32 .ensures
+    ∙ sets-put (now (a .buf)) 348 (bytesOf Little 4 1) (omega arith)
+    ∙ rw (lt-ltb 352 (a .end) (c .before .before .before .before .if1 .taken))
 
 same-length-2 : tie.Need-same-length-2
 same-length-2 c = search needs
@@ -32,7 +34,9 @@ returns-2 : tie.Need-returns-2
 unfolding bytesOf padded
 returns-2 c =
     let a = c .before .before .before .before .before .before .args in
-    c .before .before .put-u322 .ensures ∙ sets-put (now (a .buf)) 348 (bytesOf Little 4 0) (omega arith) ∙ rw (le-ltb 352 (a .end) (c .before .before .before .before .if1 .left))
+    c .before .before .put-u322 .ensures
+    ∙ sets-put (now (a .buf)) 348 (bytesOf Little 4 0) (omega arith)
+    ∙ rw (le-ltb 352 (a .end) (c .before .before .before .before .if1 .left))
 
 pub put-extender-spec : {M : Type 1} → statement M
 put-extender-spec =

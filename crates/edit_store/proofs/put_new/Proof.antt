@@ -13,8 +13,8 @@ use Rattle.edit_plan.specs.Fresh.{stored}
 use Rattle.edit_plan.specs.Planned.{newSize}
 use Rattle.edit_plan.proofs.Planning.{length-new}
 use borrow.Author.Needs.{needs}
-use Rattle.edit.proofs.put_new.Statement.{statement}
-use Rattle.edit.proofs.put_new.Tie as tie
+use Rattle.edit_store.proofs.put_new.Statement.{statement}
+use Rattle.edit_store.proofs.put_new.Tie as tie
 
 enum-told : tie.Need-enum-told
 enum-told c = search needs
@@ -49,7 +49,8 @@ returns c =
     let s = c .before .before .before .before .before .before .before .before in
     let a = s .args in
     let q = toZ-ofZ w32 (a .code) (s .fits .code) in
-    let e : c .before .before .put-extension .last .0 ≡ put (now (a .buf)) (a .at) (stored (a .order) (a .code) (now (a .payload))) = rw q at (c .before .before .put-extension .ensures) in
+    let e : c .before .before .put-extension .last .0 ≡ put (now (a .buf)) (a .at) (stored (a .order) (a .code) (now (a .payload))) =
+    rw q at (c .before .before .put-extension .ensures) in
     e ∙ rw (c .before .before .before .before .enum-told .given .1, append-nil)
 
 same-length-2 : tie.Need-same-length-2
@@ -60,7 +61,8 @@ returns-2 c =
     let s = c .before .before .before .before .before .before .before .before in
     let a = s .args in
     let q = toZ-ofZ w32 (a .code) (s .fits .code) in
-    let e : c .before .before .put-extension2 .last .0 ≡ put (now (a .buf)) (a .at) (stored (a .order) (a .code) (now (a .payload))) = rw q at (c .before .before .put-extension2 .ensures) in
+    let e : c .before .before .put-extension2 .last .0 ≡ put (now (a .buf)) (a .at) (stored (a .order) (a .code) (now (a .payload))) =
+    rw q at (c .before .before .put-extension2 .ensures) in
     e ∙ rw (c .before .before .before .before .enum-told2 .given .1, append-nil)
 
 returns-3 : tie.Need-returns-3

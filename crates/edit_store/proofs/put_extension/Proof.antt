@@ -7,10 +7,10 @@ use mir.Syntax.{w32}
 use mir.Val.{ofZ}
 use mir.ValLaws.{toZ-ofZ}
 use Rattle.field.specs.Numbers.{bytesOf}
-use Rattle.edit.proofs.Storing.{stored-put}
+use Rattle.edit_store.proofs.Storing.{stored-put}
 use borrow.Author.Needs.{needs}
-use Rattle.edit.proofs.put_extension.Statement.{statement}
-use Rattle.edit.proofs.put_extension.Tie as tie
+use Rattle.edit_store.proofs.put_extension.Statement.{statement}
+use Rattle.edit_store.proofs.put_extension.Tie as tie
 
 add-size : tie.Need-add-size
 add-size c = search needs
@@ -56,12 +56,16 @@ same-length c = search needs
 
 returns : tie.Need-returns
 returns c =
-    let s = c .before .before .before .before .before .before .before .before .before .before .before .before .before .before .before .before .before .before in
+    let k = c .before .before .before .before .before .before in
+    let i = k .before .before .before .before in
+    let u = i .before .before .before .before in
+    let s = u .before .before .before .before in
     let a = s .args in
     let q = toZ-ofZ w32 (a .code) (s .fits .code) in
-    let e : c .before .before .before .before .before .before .before .before .before .before .put-i32 .last .0 ≡ sets (c .before .before .before .before .before .before .before .before .before .before .before .before .before .before .put-u32 .last .0) (a .at + 4) (bytesOf (a .order) 4 (ofZ w32 (a .code))) = rw q at (c .before .before .before .before .before .before .before .before .before .before .put-i32 .ensures) in
-    stored-put (now (a .buf)) (a .at) (a .order) (a .code) (now (a .payload)) (c .before .before .before .before .before .before .before .before .before .before .before .before .before .before .put-u32 .last .0) (c .before .before .before .before .before .before .before .before .before .before .put-i32 .last .0) (c .before .before .before .before .before .before .copy-in .last .0) (c .before .before .clear .last .0)
-    (s .pre .0) (c .before .before .before .before .before .before .before .before .before .before .before .before .before .before .put-u32 .kept .0) (c .before .before .before .before .before .before .before .before .before .before .before .before .before .before .put-u32 .ensures) e (c .before .before .before .before .before .before .copy-in .ensures) (c .before .before .clear .ensures)
+    let e : i .put-i32 .last .0 ≡ sets (u .put-u32 .last .0) (a .at + 4) (bytesOf (a .order) 4 (ofZ w32 (a .code))) =
+    rw q at (i .put-i32 .ensures) in
+    stored-put (now (a .buf)) (a .at) (a .order) (a .code) (now (a .payload)) (u .put-u32 .last .0) (i .put-i32 .last .0) (k .copy-in .last .0)
+    (c .before .before .clear .last .0) (s .pre .0) (u .put-u32 .kept .0) (u .put-u32 .ensures) e (k .copy-in .ensures) (c .before .before .clear .ensures)
 
 pub put-extension-spec : {M : Type 1} → statement M
 put-extension-spec =

@@ -1,0 +1,2 @@
+-- The laws behind the promises of src/lib.rt.
+pub mod Storing
