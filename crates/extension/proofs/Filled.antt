@@ -11,7 +11,8 @@ use Rattle.extension.specs.declared.Span.{Span}
 use Rattle.extension.specs.declared.Walker.{Walker}
 use Rattle.extension.specs.declared.Step.the-variants.{Extension, End, Halt}
 use Rattle.extension.specs.declared.Listing.{Listing}
-use Rattle.extension.specs.Walk.{extensionLimit, Found, extension, ended, refused, found, restOf, past, stepFrom, stepOf, walk, onto, Walked, listed, stopped}
+use Rattle.extension.specs.Walk.{extensionLimit, restOf, Found, extension, ended, refused, found, past, stepFrom, stepOf}
+use Rattle.extension.specs.Walk.{Walked, listed, stopped, onto, walk}
 use Rattle.extension.specs.Listing.{noSpan, spansOf, listingOf}
 use Rattle.extension.proofs.Found.{taken}
 use Rattle.extension.proofs.Walks.{before, walk-extension, walk-ended, walk-refused}

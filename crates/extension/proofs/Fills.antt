@@ -38,7 +38,8 @@ fills-spans at none = full (sym (add-zero at))
 fills-spans {order} at (one {x} {xs} w ws) =
     let n : natAbs (i32At order x 0) ≡ length x = ap natAbs (w .size) in
     let e : at + length (x ++ joined xs) ≡ at + length x + length (joined xs) = omega (arith, length-append x (joined xs)) in
-    let later : Fills (at + natAbs (i32At order x 0)) (at + length (x ++ joined xs)) (spansFrom order (at + length x) xs) = rw (n, e) (fills-spans (at + length x) ws) in
+    let a = at + length x in
+    let later : Fills (at + natAbs (i32At order x 0)) (at + length (x ++ joined xs)) (spansFrom order a xs) = rw (n, e) (fills-spans a ws) in
     next refl (whole-proper at w) later
 
 pub walk-fills : (order : Order) (left at : ℕ) (rest : List ℕ) (xs : List Span) → walk order left at rest ≡ listed xs → Fills at (at + length rest) xs
@@ -63,7 +64,8 @@ fills-at (next s p f) zero z h = record { proper = p; from = omega arith; upto =
 fills-at (next s p f) (suc k) z h = let i = fills-at f k z (omega arith) in record { proper = i .proper; from = omega arith; upto = i .upto }
 
 -- the extensions of a file fill the bytes from 352 up to the region's end
-pub extensions-fill : (order : Order) (end : ℕ) (file : List ℕ) (xs : List Span) → end ≤ length file → extensionsIn order end file ≡ listed xs → Fills firstPlace end xs
+pub extensions-fill : (order : Order) (end : ℕ) (file : List ℕ) (xs : List Span) → end ≤ length file → extensionsIn order end file ≡ listed xs
+    → Fills firstPlace end xs
 unfolding extensionsIn
 extensions-fill order end file xs h e =
     let rest = restOf file end firstPlace in
@@ -110,7 +112,7 @@ module _ (order : Order) (left at end : ℕ) (file : List ℕ) (xs : List Span) 
       (λ i b.
       let w = whole-is in
       let e : at + before + j + i ≡ at + (before + (j + i)) = omega arith in
-      let r : getD (joined (pieces xs rest)) (before + (j + i)) 0 ≡ getD piece (j + i) 0 = joined-at (pieces xs rest) k (j + i) counted (omega arith) in
+      let r = joined-at (pieces xs rest) k (j + i) counted (omega arith) in
       rw e (sym (rw (opening .region) at r) ∙ getD-rest file end at (before + (j + i)) (omega (arith, inside)))))
 
   -- each span's size and code are what the file has there

@@ -15,7 +15,8 @@ use Rattle.refusal.specs.declared.Verdict.the-variants.{Accepted, Refused}
 use Rattle.refusal.specs.Table.{refusal, verdict, decided}
 use Rattle.refusal.proofs.Rows.{between, verdict-number}
 use Rattle.extension.specs.declared.Span.{Span}
-use Rattle.extension.specs.Walk.{extensionLimit, extensionRows, spanAt, Found, extension, ended, refused, found, restOf, firstPlace, Walked, listed, stopped, onto, goOn, walk, extensionsIn}
+use Rattle.extension.specs.Walk.{extensionLimit, extensionRows, firstPlace, restOf, spanAt, Found, extension, ended, refused, found}
+use Rattle.extension.specs.Walk.{Walked, listed, stopped, onto, goOn, walk, extensionsIn}
 use Rattle.extension.proofs.Walks.{before, stopped-never}
 
 -- what is found is no refusal

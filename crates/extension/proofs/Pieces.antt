@@ -14,7 +14,8 @@ use Rattle.field.specs.declared.Order.{Order}
 use Rattle.field.specs.Numbers.{u32At, i32At, joined}
 use Rattle.refusal.specs.declared.Refusal.{Refusal}
 use Rattle.extension.specs.declared.Span.{Span}
-use Rattle.extension.specs.Walk.{extensionLimit, firstPlace, spanAt, Found, extension, ended, refused, found, walk, onto, goOn, Walked, listed, stopped, extensionsIn}
+use Rattle.extension.specs.Walk.{extensionLimit, firstPlace, spanAt, Found, extension, ended, refused, found}
+use Rattle.extension.specs.Walk.{Walked, listed, stopped, onto, goOn, walk, extensionsIn}
 use Rattle.extension.specs.Pieces.{pieces, Complete, AllComplete, none, one, spansFrom}
 use Rattle.extension.proofs.Signs.{toZ-low, rule-holds}
 use Rattle.extension.proofs.Regions.{u32-same}
@@ -40,7 +41,8 @@ module _ (order : Order) (x r : List ℕ) (w : Complete order x) where
       let rule = rule-holds (length x) (length (x ++ r)) (w .least) (w .units) (omega arith) in
       let size : i32At order (x ++ r) 0 ≡ pos (length x) = i32-front order x r 0 (omega arith) ∙ w .size in
       let code : i32At order (x ++ r) 4 ≡ i32At order x 4 = i32-front order x r 4 (omega arith) in
-      rw (found-extension n at (length (x ++ r)) (i32At order (x ++ r) 0) (i32At order (x ++ r) 4) (omega arith) more (rw size rule) (rw code (w .code)), span-front at)
+      found-extension n at (length (x ++ r)) (i32At order (x ++ r) 0) (i32At order (x ++ r) 4) (omega arith) more (rw size rule) (rw code (w .code))
+      ∙ ap extension (span-front at)
 
 found-nothing : (order : Order) (n at : ℕ) → (n ≡ 0 → ⊥) → found order n at [] ≡ ended
 unfolding found
@@ -58,11 +60,13 @@ walk-join order left at (one {x} {xs} w ws) h k n =
 
 -- in a file: what stands in front of the extensions, and what follows them, doesn't matter
 pub placed-listed : (order : Order) (head tail : List ℕ) {xs : List (List ℕ)} → length head ≡ firstPlace → AllComplete order xs → 0 < length xs
-    → length xs ≤ extensionLimit → extensionsIn order (firstPlace + length (joined xs)) (head ++ (joined xs ++ tail)) ≡ listed (spansFrom order firstPlace xs)
+    → length xs ≤ extensionLimit
+    → extensionsIn order (firstPlace + length (joined xs)) (head ++ (joined xs ++ tail)) ≡ listed (spansFrom order firstPlace xs)
 unfolding extensionsIn
 placed-listed order head tail {xs} h ws some few =
-    let l : length (head ++ joined xs) ≡ firstPlace + length (joined xs) = simp (length-append, h) in
-    rw (← append-assoc head (joined xs) tail, take-at (head ++ joined xs) tail (firstPlace + length (joined xs)) l, drop-at head (joined xs) firstPlace h)
+    let all = joined xs in
+    let l : length (head ++ all) ≡ firstPlace + length all = simp (length-append, h) in
+    rw (← append-assoc head all tail, take-at (head ++ all) tail (firstPlace + length all) l, drop-at head all firstPlace h)
     (walk-join order extensionLimit firstPlace ws few (omega arith) (λ e. some))
 
 -- what a walk that lists the spans ss says of the region: it is their pieces joined, each whole; ss are the pieces' spans, no more
@@ -135,7 +139,8 @@ opened order zero at rest ss e = by (found order extensionLimit at rest) refl e 
   by (refused r) h q = open-refused order zero at rest ss r q
   by (extension x) h q = let t = taken order extensionLimit at rest x h in absurd (omega arith)
 opened order (suc m) at rest ss e = by (λ a r xs q. opened order m a r xs q) (found order (before (suc m)) at rest) refl e where
-  by : ((a : ℕ) (r : List ℕ) (xs : List Span) → walk order m a r ≡ listed xs → Opened order m a r xs) → (f : Found) → found order (before (suc m)) at rest ≡ f
+  by : ((a : ℕ) (r : List ℕ) (xs : List Span) → walk order m a r ≡ listed xs → Opened order m a r xs)
+      → (f : Found) → found order (before (suc m)) at rest ≡ f
       → goOn f (λ x. onto x (walk order m (at + natAbs (x .size)) (drop (natAbs (x .size)) rest))) ≡ listed ss → Opened order (suc m) at rest ss
   by ih ended h q = open-end order (suc m) at rest ss h q
   by ih (refused r) h q = open-refused order (suc m) at rest ss r q
@@ -151,7 +156,8 @@ unfolding spansFrom
 spansFrom-at order at [] k z h = absurd (omega arith)
 spansFrom-at order at (x ∷ xs) zero z h = let e : at + 0 ≡ at = omega arith in rw e
 spansFrom-at order at (x ∷ xs) (suc k) z h =
-    let e : at + length (x ++ joined (take k xs)) ≡ at + length x + length (joined (take k xs)) = omega (arith, length-append x (joined (take k xs))) in
+    let l = length-append x (joined (take k xs)) in
+    let e : at + length (x ++ joined (take k xs)) ≡ at + length x + length (joined (take k xs)) = omega arith in
     rw e (spansFrom-at order (at + length x) xs k z (omega arith))
 
 pub length-spansFrom : (order : Order) (at : ℕ) (xs : List (List ℕ)) → length (spansFrom order at xs) ≡ length xs
@@ -165,9 +171,11 @@ wholes-at (one w ws) zero h = w
 wholes-at (one w ws) (suc k) h = wholes-at ws k (omega arith)
 
 -- the bytes of the k-th extension stand behind those before it
-pub joined-at : (xs : List (List ℕ)) (k i : ℕ) → k < length xs → i < length (getD xs k []) → getD (joined xs) (length (joined (take k xs)) + i) 0 ≡ getD (getD xs k []) i 0
+pub joined-at : (xs : List (List ℕ)) (k i : ℕ) → k < length xs → i < length (getD xs k [])
+    → getD (joined xs) (length (joined (take k xs)) + i) 0 ≡ getD (getD xs k []) i 0
 joined-at [] k i h b = absurd (omega arith)
 joined-at (x ∷ xs) zero i h b = rw zero-add (List·getD-append x (joined xs) 0 i b)
 joined-at (x ∷ xs) (suc k) i h b =
-    let e : length (x ++ joined (take k xs)) + i ≡ length x + (length (joined (take k xs)) + i) = omega (arith, length-append x (joined (take k xs))) in
+    let l = length-append x (joined (take k xs)) in
+    let e : length (x ++ joined (take k xs)) + i ≡ length x + (length (joined (take k xs)) + i) = omega arith in
     rw e (getD-append-add x (joined xs) (length (joined (take k xs)) + i) 0 ∙ joined-at xs k i (omega arith) b)

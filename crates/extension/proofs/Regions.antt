@@ -19,7 +19,8 @@ getD-rest file end at i h =
     rw (getD-drop at (take end file) i 0, getD-take end file (at + i) 0 (omega arith))
 
 -- a region's bytes from a place on, as a part of the file that starts and ends inside it
-pub part-rest : (file : List ℕ) (end at stop from : ℕ) → stop ≡ min end (length file) → from ≡ min at stop → take (stop - from) (drop from file) ≡ restOf file end at
+pub part-rest : (file : List ℕ) (end at stop from : ℕ) → stop ≡ min end (length file) → from ≡ min at stop
+    → take (stop - from) (drop from file) ≡ restOf file end at
 part-rest file end at stop from e f =
     let l = length-rest file end at in
     ext-getD 0 (take (stop - from) (drop from file)) (restOf file end at) (simp (length-take, length-drop) (omega arith))

@@ -40,9 +40,11 @@ use Rattle.header.specs.Fields.{headerOf, magicOf}
 use Rattle.header.proofs.Distinct.{single-never}
 use Rattle.rules.specs.declared.Shape.{Shape}
 use Rattle.rules.specs.declared.Image.{Image}
-use Rattle.rules.specs.Rules.{oneToSeven, firstBad, statesBits, isKnown, offsetOutside, bytesOfImage, fieldRows, imageOf, shapeOfRecord, recordRows, cutShort, regionEnd}
+use Rattle.rules.specs.Rules.{oneToSeven, firstBad, statesBits, isKnown, offsetOutside, bytesOfImage, imageOf, cutShort, regionEnd}
+use Rattle.rules.specs.Rules.{fieldRows, shapeOfRecord, recordRows}
 use Rattle.rules.proofs.Passed.{neither, Fields, clear-fields, fields-clear}
-use Rattle.layout.specs.File.{holdsIn, orderOf, sameBytes, hasMagic, kindOf, shapeIn, shapeOf, cutExtender, hasNone, hasExtensions, headRows, endRows, fileRows, layoutOf, endOf}
+use Rattle.layout.specs.File.{holdsIn, orderOf, sameBytes, hasMagic, kindOf, shapeIn, shapeOf, cutExtender, hasNone, hasExtensions}
+use Rattle.layout.specs.File.{headRows, endRows, fileRows, layoutOf, endOf}
 use Rattle.layout.proofs.Starting.{either, either-kind}
 use Rattle.reader.specs.declared.Reading.{Reading}
 use Rattle.reader.specs.Reading.{extensionsOf, judgement, acceptedWith, readingBy, readingOf, IsAccepted}

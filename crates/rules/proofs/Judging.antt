@@ -86,7 +86,8 @@ module _ (f : Shape) (len : ℕ) where
     unfolding judgedOf verdict
     judged-7 h bits = simp (h .axes, h .known, bits)
 
-    pub judged-8 : HasFormat f t → isNumber (f .bitpix) (naturalOf (t .bits)) ≡ true → isWhole (f .«vox_offset») ≡ false → Failed (refusal 8 108) ≡ judgedOf f len
+    pub judged-8 : HasFormat f t → isNumber (f .bitpix) (naturalOf (t .bits)) ≡ true → isWhole (f .«vox_offset») ≡ false
+        → Failed (refusal 8 108) ≡ judgedOf f len
     unfolding judgedOf verdict
     judged-8 h bits whole = simp (h .axes, h .known, bits, whole)
 
@@ -108,8 +109,12 @@ module _ (f : Shape) (len : ℕ) where
 
       pub judged-10 : offsetOutside (f .kind) at len ≡ false → imageLimit < bytesOfImage f → Failed (refusal 10 40) ≡ judgedOf f len
       unfolding judgedOf verdict
-      judged-10 inside large = simp (h .format .axes, h .format .known, h .bits, h .whole, h .value, inside, lt-ltb imageLimit (bytesOfImage f) large)
+      judged-10 inside large =
+          let e = lt-ltb imageLimit (bytesOfImage f) large in
+          simp (h .format .axes, h .format .known, h .bits, h .whole, h .value, inside, e)
 
       pub judged-passed : offsetOutside (f .kind) at len ≡ false → bytesOfImage f ≤ imageLimit → Passed (imageOf f) ≡ judgedOf f len
       unfolding judgedOf verdict
-      judged-passed inside small = simp (h .format .axes, h .format .known, h .bits, h .whole, h .value, inside, le-ltb imageLimit (bytesOfImage f) small)
+      judged-passed inside small =
+          let e = le-ltb imageLimit (bytesOfImage f) small in
+          simp (h .format .axes, h .format .known, h .bits, h .whole, h .value, inside, e)

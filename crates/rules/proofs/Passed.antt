@@ -23,7 +23,8 @@ use Rattle.header.specs.declared.Kind.the-variants.{Single, Pair}
 use Rattle.rules.specs.declared.Shape.{Shape}
 use Rattle.rules.specs.declared.Image.{Image}
 use Rattle.rules.specs.declared.Judged.the-variants.{Passed, Failed}
-use Rattle.rules.specs.Rules.{firstBad, isKnown, statesBits, fieldRows, offsetOutside, bytesOfImage, imageOf, judgedOf, shapeOfRecord, recordRows, recordJudged}
+use Rattle.rules.specs.Rules.{firstBad, isKnown, statesBits, offsetOutside, bytesOfImage, imageOf, fieldRows, judgedOf}
+use Rattle.rules.specs.Rules.{shapeOfRecord, recordRows, recordJudged}
 
 -- fields that pass have not failed
 pub failed-never {ℓ} : {A : Type ℓ} {r : Refusal} {i : Image} → Failed r ≡ Passed i → A

@@ -24,8 +24,9 @@ unfolding hasMagic
 accepted-back s a all =
     let r = accepted-file s a .file .rules in
     let xs = accepted-list s a in
+    let m = same-is (bytesAt 344 4 s) (magicOf (kindOf s)) (r .magic) in
     ap (λ (x : Reading). encode (x .header)) (accepted-reads s a)
-    ∙ header-back (orderOf s) s all (kindOf s) (length xs) (spansOf xs) (r .size) (same-is (bytesAt 344 4 s) (magicOf (kindOf s)) (r .magic)) (r .long)
+    ∙ header-back (orderOf s) s all (kindOf s) (length xs) (spansOf xs) (r .size) m (r .long)
 
 module _ (s : List ℕ) (a : IsAccepted s) (l : List ℕ) (room : 348 ≤ length l) where
   pub write-accepts : writeAnswer (readingOf s .header) (length l) ≡ Accepted

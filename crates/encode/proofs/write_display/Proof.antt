@@ -3,15 +3,25 @@ use mathlib.Core.Path.{_≡_, _∙_}
 use mir.Syntax.{w32}
 use mir.Val.{toZ, ofZ}
 use Rattle.field.proofs.Stores.{sets-split, length-bytesOf, length-padded}
+use Rattle.header.specs.declared.Display.{Display}
 use Rattle.encode.specs.Encode.{displayBytes}
 use borrow.Author.Needs.{needs}
 use Rattle.encode.proofs.write_display.Statement.{statement}
 use Rattle.encode.proofs.write_display.Tie as tie
 
-glmax-same : (c : tie.After-struct-told) → toZ w32 (ofZ w32 (c .before .before .before .before .before .before .before .before .before .before .before .before .before .before .before .before .before .before .before .args .g .glmax)) ≡ c .before .before .before .before .before .before .before .before .before .before .before .before .before .before .before .before .before .before .before .args .g .glmax
+-- the group that is written, where its first signed number is passed on: each of them fits, so that it is read back as it is
+abbrev g : tie.After-struct-told → Display
+g c =
+    let c4 = c .before .before .before .before in
+    let c3 = c4 .before .before .before .before in
+    let c2 = c3 .before .before .before .before in
+    let c1 = c2 .before .before .before .before in
+    c1 .before .before .before .args .g
+
+glmax-same : (c : tie.After-struct-told) → toZ w32 (ofZ w32 (g c .glmax)) ≡ g c .glmax
 glmax-same c = search needs
 
-glmin-same : (c : tie.After-struct-told2) → toZ w32 (ofZ w32 (c .before .before .before .before .before .before .before .before .before .before .before .before .before .before .before .before .before .before .before .before .before .before .before .before .args .g .glmin)) ≡ c .before .before .before .before .before .before .before .before .before .before .before .before .before .before .before .before .before .before .before .before .before .before .before .before .args .g .glmin
+glmin-same : (c : tie.After-struct-told) → toZ w32 (ofZ w32 (g c .glmin)) ≡ g c .glmin
 glmin-same c = search needs
 
 put-u32-requires : tie.Need-put-u32-requires
@@ -48,7 +58,8 @@ same-length c =
     let c3 = c4 .before .before .before .before in
     let c2 = c3 .before .before .before .before in
     let c1 = c2 .before .before .before .before in
-    c8 .put-text24 .kept .0 ∙ c7 .put-text80 .kept .0 ∙ c6 .put-i322 .kept .0 ∙ c5 .put-i32 .kept .0 ∙ c4 .put-u324 .kept .0 ∙ c3 .put-u323 .kept .0 ∙ c2 .put-u322 .kept .0 ∙ c1 .put-u32 .kept .0
+    c8 .put-text24 .kept .0 ∙ c7 .put-text80 .kept .0 ∙ c6 .put-i322 .kept .0 ∙ c5 .put-i32 .kept .0
+    ∙ c4 .put-u324 .kept .0 ∙ c3 .put-u323 .kept .0 ∙ c2 .put-u322 .kept .0 ∙ c1 .put-u32 .kept .0
 
 returns : tie.Need-returns
 unfolding displayBytes
@@ -61,8 +72,17 @@ returns c =
     let c3 = c4 .before .before .before .before in
     let c2 = c3 .before .before .before .before in
     let c1 = c2 .before .before .before .before in
-    rw (c8 .put-text24 .ensures, c7 .put-text80 .ensures, c6 .put-i322 .ensures, c5 .put-i32 .ensures, c4 .put-u324 .ensures, c3 .put-u323 .ensures, c2 .put-u322 .ensures, c1 .put-u32 .ensures)
-    (simp (sets-split, length-bytesOf, length-padded, glmax-same (c5 .before), glmin-same (c6 .before)))
+    rw (
+      c8 .put-text24 .ensures,
+      c7 .put-text80 .ensures,
+      c6 .put-i322 .ensures,
+      c5 .put-i32 .ensures,
+      c4 .put-u324 .ensures,
+      c3 .put-u323 .ensures,
+      c2 .put-u322 .ensures,
+      c1 .put-u32 .ensures,
+    )
+    (simp (sets-split, length-bytesOf, length-padded, glmax-same (c5 .before), glmin-same (c5 .before)))
 
 pub write-display-spec : {M : Type 1} → statement M
 write-display-spec =

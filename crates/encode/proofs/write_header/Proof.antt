@@ -40,7 +40,15 @@ returns c =
     let c3 = c4 .before .before .before .before .before in
     let c2 = c3 .before .before .before .before .before in
     let c1 = c2 .before .before .before .before .before in
-    rw (c7 .write-rows .ensures, c6 .write-quatern .ensures, c5 .write-display .ensures, c4 .write-scale .ensures, c3 .write-intent .ensures, c2 .put-i16x8 .ensures, c1 .write-key .ensures)
+    rw (
+      c7 .write-rows .ensures,
+      c6 .write-quatern .ensures,
+      c5 .write-display .ensures,
+      c4 .write-scale .ensures,
+      c3 .write-intent .ensures,
+      c2 .put-i16x8 .ensures,
+      c1 .write-key .ensures,
+    )
     (simp (sets-split, length-key, length-i16s, length-intent, length-scale, length-display, length-quatern))
 
 pub write-header-spec : {M : Type 1} → statement M

@@ -3,15 +3,24 @@ use mathlib.Core.Path.{_≡_, _∙_}
 use mir.Syntax.{w16, w32}
 use mir.Val.{toZ, ofZ}
 use Rattle.field.proofs.Stores.{sets-split, length-bytesOf, length-padded}
+use Rattle.header.specs.declared.Key.{Key}
 use Rattle.encode.specs.Encode.{keyBytes}
 use borrow.Author.Needs.{needs}
 use Rattle.encode.proofs.write_key.Statement.{statement}
 use Rattle.encode.proofs.write_key.Tie as tie
 
-extents-same : (c : tie.After-struct-told) → toZ w32 (ofZ w32 (c .before .before .before .before .before .before .before .before .before .before .before .before .before .before .before .before .before .args .g .extents)) ≡ c .before .before .before .before .before .before .before .before .before .before .before .before .before .before .before .before .before .args .g .extents
+-- the group that is written, where its first signed number is passed on: each of them fits, so that it is read back as it is
+abbrev g : tie.After-struct-told → Key
+g c =
+    let c3 = c .before .before .before .before in
+    let c2 = c3 .before .before .before .before .before in
+    let c1 = c2 .before .before .before .before .before in
+    c1 .before .before .before .args .g
+
+extents-same : (c : tie.After-struct-told) → toZ w32 (ofZ w32 (g c .extents)) ≡ g c .extents
 extents-same c = search needs
 
-session-error-same : (c : tie.After-struct-told2) → toZ w16 (ofZ w16 (c .before .before .before .before .before .before .before .before .before .before .before .before .before .before .before .before .before .before .before .before .before .before .args .g .«session_error»)) ≡ c .before .before .before .before .before .before .before .before .before .before .before .before .before .before .before .before .before .before .before .before .before .before .args .g .«session_error»
+session-error-same : (c : tie.After-struct-told) → toZ w16 (ofZ w16 (g c .«session_error»)) ≡ g c .«session_error»
 session-error-same c = search needs
 
 put-u32-requires : tie.Need-put-u32-requires
@@ -44,7 +53,8 @@ same-length c =
     let c3 = c4 .before .before .before .before .before in
     let c2 = c3 .before .before .before .before .before in
     let c1 = c2 .before .before .before .before .before in
-    c7 .put-byte2 .kept .0 ∙ c6 .put-byte .kept .0 ∙ c5 .put-i16 .kept .0 ∙ c4 .put-i32 .kept .0 ∙ c3 .put-text18 .kept .0 ∙ c2 .put-text10 .kept .0 ∙ c1 .put-u32 .kept .0
+    c7 .put-byte2 .kept .0 ∙ c6 .put-byte .kept .0 ∙ c5 .put-i16 .kept .0 ∙ c4 .put-i32 .kept .0
+    ∙ c3 .put-text18 .kept .0 ∙ c2 .put-text10 .kept .0 ∙ c1 .put-u32 .kept .0
 
 returns : tie.Need-returns
 unfolding keyBytes
@@ -56,8 +66,16 @@ returns c =
     let c3 = c4 .before .before .before .before .before in
     let c2 = c3 .before .before .before .before .before in
     let c1 = c2 .before .before .before .before .before in
-    rw (c7 .put-byte2 .ensures, c6 .put-byte .ensures, c5 .put-i16 .ensures, c4 .put-i32 .ensures, c3 .put-text18 .ensures, c2 .put-text10 .ensures, c1 .put-u32 .ensures)
-    (simp (sets-split, length-bytesOf, length-padded, extents-same (c4 .before), session-error-same (c5 .before)))
+    rw (
+      c7 .put-byte2 .ensures,
+      c6 .put-byte .ensures,
+      c5 .put-i16 .ensures,
+      c4 .put-i32 .ensures,
+      c3 .put-text18 .ensures,
+      c2 .put-text10 .ensures,
+      c1 .put-u32 .ensures,
+    )
+    (simp (sets-split, length-bytesOf, length-padded, extents-same (c4 .before), session-error-same (c4 .before)))
 
 pub write-key-spec : {M : Type 1} → statement M
 write-key-spec =

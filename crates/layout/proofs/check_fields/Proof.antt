@@ -1,6 +1,7 @@
 -- `check_fields` meets its contract: rules 5 to 10, then 11 and 12, by the laws of proofs/Checking.antt.
 use mathlib.Core.Path.{_≡_, sym, _∙_}
 use denote.Ref.{now}
+use Rattle.rules.specs.declared.Shape.{Shape}
 use Rattle.rules.specs.Rules.{judgedOf}
 use Rattle.layout.specs.File.{shapeIn}
 use Rattle.layout.proofs.Checking.{began, checks-fields, checks-end, checks-all}
@@ -8,8 +9,12 @@ use borrow.Author.Needs.{needs}
 use Rattle.layout.proofs.check_fields.Statement.{statement}
 use Rattle.layout.proofs.check_fields.Tie as tie
 
+-- the fields' numbers, as the file has them
+abbrev shape : tie.Start → Shape
+shape S = shapeIn (S .args .order) (S .args .kind) (now (S .args .file))
+
 judged-is : (c : tie.After-judge)
-    → c .judge .result ≡ judgedOf (shapeIn (c .before .before .before .args .order) (c .before .before .before .args .kind) (now (c .before .before .before .args .file))) (c .before .before .before .args .len)
+    → c .judge .result ≡ judgedOf (shape (c .before .before .before)) (c .before .before .before .args .len)
 judged-is c = rw (c .before .shape-in .ensures) at (c .judge .ensures)
 
 shape-in-requires : tie.Need-shape-in-requires
@@ -39,7 +44,9 @@ returns c =
     let S = j .before .before .before in
     let a = S .args in
     let s = now (a .file) in
-    checks-fields s (a .len) (a .order) (a .kind) (began s (a .len) (a .order) (a .kind) (S .pre)) (c .before .judged .given .0 .0) (sym (judged-is j) ∙ c .before .judged .given .1)
+    let b = began s (a .len) (a .order) (a .kind) (S .pre) in
+    let t = c .before .judged .given in
+    checks-fields s (a .len) (a .order) (a .kind) b (t .0 .0) (sym (judged-is j) ∙ t .1)
 
 returns-2 : tie.Need-returns-2
 returns-2 c =
@@ -49,8 +56,10 @@ returns-2 c =
     let S = j .before .before .before in
     let a = S .args in
     let s = now (a .file) in
-    checks-end s (a .len) (a .order) (a .kind) (began s (a .len) (a .order) (a .kind) (S .pre)) (p .judged2 .given .0 .0) (sym (judged-is j) ∙ p .judged2 .given .1)
-    (c .before .end .given .0 .0) (sym (e .check-end .ensures) ∙ c .before .end .given .1)
+    let b = began s (a .len) (a .order) (a .kind) (S .pre) in
+    let t = p .judged2 .given in
+    let u = c .before .end .given in
+    checks-end s (a .len) (a .order) (a .kind) b (t .0 .0) (sym (judged-is j) ∙ t .1) (u .0 .0) (sym (e .check-end .ensures) ∙ u .1)
 
 returns-3 : tie.Need-returns-3
 returns-3 c =
@@ -60,8 +69,9 @@ returns-3 c =
     let S = j .before .before .before in
     let a = S .args in
     let s = now (a .file) in
-    checks-all s (a .len) (a .order) (a .kind) (began s (a .len) (a .order) (a .kind) (S .pre)) (p .judged2 .given .0 .0) (sym (judged-is j) ∙ p .judged2 .given .1)
-    (sym (e .check-end .ensures) ∙ c .enum-told .given .1)
+    let b = began s (a .len) (a .order) (a .kind) (S .pre) in
+    let t = p .judged2 .given in
+    checks-all s (a .len) (a .order) (a .kind) b (t .0 .0) (sym (judged-is j) ∙ t .1) (sym (e .check-end .ensures) ∙ c .enum-told .given .1)
 
 pub check-fields-spec : {M : Type 1} → statement M
 check-fields-spec =

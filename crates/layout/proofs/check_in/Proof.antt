@@ -21,7 +21,9 @@ check-fields-requires c κs = sym (c .before .before .before .start-in .ensures)
 returns : tie.Need-returns
 returns c =
     let r = c .before .before .before in
-    checks-start (now (r .before .before .args .file)) (r .before .before .args .len) (c .before .start .given .0 .0) (sym (r .start-in .ensures) ∙ c .before .start .given .1)
+    let a = r .before .before .args in
+    let t = c .before .start .given in
+    checks-start (now (a .file)) (a .len) (t .0 .0) (sym (r .start-in .ensures) ∙ t .1)
 
 returns-2 : tie.Need-returns-2
 returns-2 c = search needs

@@ -1,7 +1,7 @@
 -- `start_in` meets its contract: rules 1 to 4 one after the other, by the laws of proofs/Starting.antt.
 use Prim.Native.Nat.{_≤_}
 use mathlib.Core.Path.{_≡_, sym, _∙_}
-use mathlib.Core.Bool.{true}
+use mathlib.Core.Bool.{Bool, true}
 use mathlib.Core.List.{List}
 use Prim.Native.Nat.{ℕ}
 use native.Mathlib.Omega.{arith}
@@ -26,6 +26,10 @@ bytes S = now (S .before .args .file)
 abbrev size : tie.After-shared-slice-known → ℕ
 size S = S .before .args .len
 
+-- that the first number, read as the file has it, is 348
+abbrev sized-as : tie.After-shared-slice-known → Bool
+sized-as S = isNumber (i32At (orderOf (bytes S)) (bytes S) 0) 348
+
 -- what is known where rule 1, then rule 2, then rule 3 has passed
 long : (c : tie.Else1) → 348 ≤ size (c .before)
 long c = omega arith
@@ -33,16 +37,12 @@ long c = omega arith
 ordered : (c : tie.Else2) → holdsIn (orderOf (bytes (c .before .before .before .before))) (bytes (c .before .before .before .before)) ≡ true
 ordered c = rw (c .before .before .order-of .ensures) at (sym (c .before .holds-in .ensures) ∙ not-false _ (c .if2 .left))
 
-by-size : (c : tie.After-read-i32)
-    → isNumber (i32At (orderOf (bytes (c .before .before .before .before .before))) (bytes (c .before .before .before .before .before)) 0) 348
-    ≡ eqb (ofZ w32 (c .read-i32 .result)) 348
+by-size : (c : tie.After-read-i32) → sized-as (c .before .before .before .before .before) ≡ eqb (ofZ w32 (c .read-i32 .result)) 348
 by-size c =
     let n = c .read-i32 in
     rw (← c .before .before .before .order-of .ensures, ← n .ensures) (number-bits w32 (n .result) 348 (record { sfits = n .ok }) (omega arith))
 
-sized : (c : tie.Else3)
-    → isNumber (i32At (orderOf (bytes (c .before .before .before .before .before .before))) (bytes (c .before .before .before .before .before .before)) 0) 348
-    ≡ true
+sized : (c : tie.Else3) → sized-as (c .before .before .before .before .before .before) ≡ true
 sized c = by-size (c .before) ∙ eq-eqb (ofZ w32 (c .before .read-i32 .result)) 348 (c .if3 .left)
 
 unread-requires : tie.Need-unread-requires

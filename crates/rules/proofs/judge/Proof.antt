@@ -2,6 +2,7 @@
 use Prim.Native.Nat.{_≤_}
 use mathlib.Core.Path.{_≡_, sym, _∙_}
 use native.Mathlib.Omega.{arith}
+use lib.IntN.{ℤ}
 use mir.Syntax.{w16}
 use mir.Val.{toZ, ofZ}
 use Rattle.rules.specs.Rules.{firstBad}
@@ -19,8 +20,10 @@ bad-most c =
     omega (arith, c .first-below-one .ensures, first-most (a .shape .dim) (c .before .axis-count .result), c .before .axis-count .ensures .1)
 
 -- the code as it is passed on, and as the shape has it
-code-same : (c : tie.After-struct-told)
-    → toZ w16 (ofZ w16 (c .before .before .before .before .before .before .before .args .shape .datatype)) ≡ c .before .before .before .before .before .before .before .args .shape .datatype
+abbrev code : tie.After-struct-told → ℤ
+code c = c .before .before .before .before .before .before .before .args .shape .datatype
+
+code-same : (c : tie.After-struct-told) → toZ w16 (ofZ w16 (code c)) ≡ code c
 code-same c = search needs
 
 none : (c : tie.Else1) → c .before .first-below-one .result ≡ 0
@@ -82,7 +85,8 @@ returns-3 c =
     let b = d .before .before .before in
     let S = b .before .before .before .before .before in
     c .failed2 .ensures
-    ∙ judged-6 (S .args .shape) (S .args .len) (sym (bad-is b) ∙ none (d .before .before)) (rw (code-same (d .before)) at (sym (d .datatype-of .ensures) ∙ c .before .enum-told .given .1))
+    ∙ judged-6 (S .args .shape) (S .args .len) (sym (bad-is b) ∙ none (d .before .before))
+    (rw (code-same (d .before)) at (sym (d .datatype-of .ensures) ∙ c .before .enum-told .given .1))
 
 pub judge-spec : {M : Type 1} → statement M
 judge-spec =

@@ -82,7 +82,8 @@ returns-3 c =
     let S = b .before .before .before .before in
     let a = S .args in
     let e = sym (d .decode .ensures) ∙ c .before .enum-told .given .1 in
-    c .failed2 .ensures ∙ judged-8 (a .shape) (a .len) (a .format) (formed S) (agree b (d .before .if1 .left)) (not-whole-is-not (a .shape .«vox_offset») e)
+    c .failed2 .ensures
+    ∙ judged-8 (a .shape) (a .len) (a .format) (formed S) (agree b (d .before .if1 .left)) (not-whole-is-not (a .shape .«vox_offset») e)
 
 returns-4 : tie.Need-returns-4
 returns-4 c =

@@ -27,7 +27,8 @@ returns : tie.Need-returns
 returns c =
     let S = c .before .before .before in
     let a = S .args in
-    c .failed .ensures ∙ judged-9 (a .shape) (a .len) (a .format) (a .at) (offered S) (sym (c .before .before .offset-outside .ensures) ∙ c .before .if1 .taken)
+    let outside = sym (c .before .before .offset-outside .ensures) ∙ c .before .if1 .taken in
+    c .failed .ensures ∙ judged-9 (a .shape) (a .len) (a .format) (a .at) (offered S) outside
 
 slice-aggregate-image-bytes : tie.Need-slice-aggregate-image-bytes
 slice-aggregate-image-bytes c = search needs
@@ -47,18 +48,20 @@ failed-requires-2 c κs = search needs
 returns-2 : tie.Need-returns-2
 returns-2 c =
     let b = c .before .before in
-    let S = b .before .before .before .before .before .before .before in
+    let f = b .before .before .before .before .before in
+    let S = f .before .before in
     let a = S .args in
-    let inside = sym (b .before .before .before .before .before .before .offset-outside .ensures) ∙ b .before .before .before .before .before .if1 .left in
+    let inside = sym (f .before .offset-outside .ensures) ∙ f .if1 .left in
     let total = b .image-bytes .ensures ∙ image-is (a .shape) (a .len) (a .format) (a .at) (offered S) (b .before .axis-count .ensures .0) in
     c .failed2 .ensures ∙ judged-10 (a .shape) (a .len) (a .format) (a .at) (offered S) inside (omega (arith, total))
 
 returns-3 : tie.Need-returns-3
 returns-3 c =
     let b = c .before in
-    let S = b .before .before .before .before .before .before .before in
+    let f = b .before .before .before .before .before in
+    let S = f .before .before in
     let a = S .args in
-    let inside = sym (b .before .before .before .before .before .before .offset-outside .ensures) ∙ b .before .before .before .before .before .if1 .left in
+    let inside = sym (f .before .offset-outside .ensures) ∙ f .if1 .left in
     let total = b .image-bytes .ensures ∙ image-is (a .shape) (a .len) (a .format) (a .at) (offered S) (b .before .axis-count .ensures .0) in
     let same : b .image-bytes .result ≡ bytesOfImage (a .shape) = omega (arith, total) in
     (λ i. Passed (record { offset = sym (S .pre .4) i; bytes = same i }))

@@ -7,6 +7,7 @@ use mir.Syntax.{w16}
 use mir.Val.{toZ, ofZ}
 use Rattle.number.specs.Natural.{naturalOf}
 use Rattle.grid.specs.Axes.{dimAt}
+use Rattle.header.specs.declared.Intent.{Intent}
 use Rattle.rules.specs.Rules.{oneToSeven, axisCount}
 use Rattle.rules.proofs.Seven.{seven-naturalOf, record-2, record-rest}
 use borrow.Author.Needs.{needs}
@@ -15,23 +16,23 @@ use Rattle.rules.proofs.judge_record.Tie as tie
 
 few : (c : tie.Then1) → oneToSeven (dimAt (c .before .before .before .before .args .h .dim) 0) ≡ false
 few c =
-    let z = dimAt (c .before .before .before .before .args .h .dim) 0 in
-    let n = axisCount (c .before .before .before .before .args .h .dim) in
-    seven-naturalOf z ∙ rw (lt-leb 1 n (omega (arith, c .before .axis-count .ensures .0)))
+    let d = c .before .before .before .before .args .h .dim in
+    let e = c .before .axis-count .ensures .0 in
+    seven-naturalOf (dimAt d 0) ∙ rw (lt-leb 1 (axisCount d) (omega arith))
 
 many : (c : tie.Then2) → oneToSeven (dimAt (c .before .before .before .before .before .args .h .dim) 0) ≡ false
 many c =
-    let z = dimAt (c .before .before .before .before .before .args .h .dim) 0 in
-    let n = axisCount (c .before .before .before .before .before .args .h .dim) in
-    seven-naturalOf z
-    ∙ rw (le-leb 1 n (omega (arith, c .before .before .axis-count .ensures .0)), lt-leb n 7 (omega (arith, c .before .before .axis-count .ensures .0)))
+    let d = c .before .before .before .before .before .args .h .dim in
+    let n = axisCount d in
+    let e = c .before .before .axis-count .ensures .0 in
+    seven-naturalOf (dimAt d 0) ∙ rw (le-leb 1 n (omega arith), lt-leb n 7 (omega arith))
 
 held : (c : tie.Else2) → oneToSeven (dimAt (c .before .before .before .before .before .args .h .dim) 0) ≡ true
 held c =
-    let z = dimAt (c .before .before .before .before .before .args .h .dim) 0 in
-    let n = axisCount (c .before .before .before .before .before .args .h .dim) in
-    seven-naturalOf z
-    ∙ rw (le-leb 1 n (omega (arith, c .before .before .axis-count .ensures .0)), le-leb n 7 (omega (arith, c .before .before .axis-count .ensures .0)))
+    let d = c .before .before .before .before .before .args .h .dim in
+    let n = axisCount d in
+    let e = c .before .before .axis-count .ensures .0 in
+    seven-naturalOf (dimAt d 0) ∙ rw (le-leb 1 n (omega arith), le-leb n 7 (omega arith))
 
 slice-aggregate-axis-count : tie.Need-slice-aggregate-axis-count
 slice-aggregate-axis-count c = search needs
@@ -42,10 +43,14 @@ axis-count-requires c κs = search needs
 failed-requires : tie.Need-failed-requires
 failed-requires c κs = search needs
 
-datatype-same : (c : tie.After-struct-told) → toZ w16 (ofZ w16 (c .before .before .before .before .before .before .before .before .args .h .intent .datatype)) ≡ c .before .before .before .before .before .before .before .before .args .h .intent .datatype
+-- the group of the datatype and bitpix, where both are passed on and read back as they are
+abbrev group : tie.After-struct-told → Intent
+group c = c .before .before .before .before .before .before .before .before .args .h .intent
+
+datatype-same : (c : tie.After-struct-told) → toZ w16 (ofZ w16 (group c .datatype)) ≡ group c .datatype
 datatype-same c = search needs
 
-bitpix-same : (c : tie.After-struct-told) → toZ w16 (ofZ w16 (c .before .before .before .before .before .before .before .before .args .h .intent .bitpix)) ≡ c .before .before .before .before .before .before .before .before .args .h .intent .bitpix
+bitpix-same : (c : tie.After-struct-told) → toZ w16 (ofZ w16 (group c .bitpix)) ≡ group c .bitpix
 bitpix-same c = search needs
 
 returns : tie.Need-returns
@@ -63,7 +68,8 @@ judge-requires c κs = search needs
 returns-3 : tie.Need-returns-3
 returns-3 c =
     let e = c .before .before .before .before in
-    (rw (datatype-same (c .before), bitpix-same (c .before)) at (c .judge .ensures)) ∙ record-rest (e .before .before .before .before .before .args .h) (held e)
+    (rw (datatype-same (c .before), bitpix-same (c .before)) at (c .judge .ensures))
+    ∙ record-rest (e .before .before .before .before .before .args .h) (held e)
 
 pub judge-record-spec : {M : Type 1} → statement M
 judge-record-spec =

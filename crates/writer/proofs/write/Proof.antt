@@ -20,7 +20,8 @@ returns : tie.Need-returns
 returns c =
     let j = c .before .before .before in
     let a = j .before .before .args in
-    writes-22 (a .header) (now (a .buf)) (c .before .enum-told .given .0 .0) (sym (j .judge-record .ensures) ∙ c .before .enum-told .given .1) (c .if1 .taken)
+    let t = c .before .enum-told .given in
+    writes-22 (a .header) (now (a .buf)) (t .0 .0) (sym (j .judge-record .ensures) ∙ t .1) (c .if1 .taken)
 
 write-header-requires : tie.Need-write-header-requires
 write-header-requires c κs = search needs
@@ -29,7 +30,8 @@ returns-2 : tie.Need-returns-2
 returns-2 c =
     let j = c .before .before .before in
     let a = j .before .before .args in
-    writes-failed (a .header) (now (a .buf)) (c .before .judged .given .0 .0) (sym (j .judge-record .ensures) ∙ c .before .judged .given .1)
+    let t = c .before .judged .given in
+    writes-failed (a .header) (now (a .buf)) (t .0 .0) (sym (j .judge-record .ensures) ∙ t .1)
 
 same-length : tie.Need-same-length
 same-length c = search needs
@@ -37,10 +39,11 @@ same-length c = search needs
 returns-3 : tie.Need-returns-3
 returns-3 c =
     let w = c .before .before in
-    let t = w .before .before .before in
-    let j = t .before .before in
+    let e = w .before .before .before in
+    let j = e .before .before in
     let a = j .before .before .args in
-    let all = writes-all (a .header) (now (a .buf)) (t .enum-told .given .0 .0) (sym (j .judge-record .ensures) ∙ t .enum-told .given .1) (omega arith) in
+    let t = e .enum-told .given in
+    let all = writes-all (a .header) (now (a .buf)) (t .0 .0) (sym (j .judge-record .ensures) ∙ t .1) (omega arith) in
     (all .0, w .write-header .ensures ∙ all .1)
 
 pub write-spec : {M : Type 1} → statement M

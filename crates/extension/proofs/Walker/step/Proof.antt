@@ -27,9 +27,10 @@ step-over-requires c κs = search needs
 returns : tie.Need-returns
 unfolding stepOf
 returns c =
-    let a = c .before .before .before .before .before .args in
-    rw (← part-rest (a .file .now) (a .self .end) (a .self .at) _ _ (c .before .before .before .lesser .ensures) (c .before .before .lesser2 .ensures))
-    (c .step-over .ensures)
+    let n = c .before .before in
+    let m = n .before in
+    let a = m .before .before .args in
+    rw (← part-rest (a .file .now) (a .self .end) (a .self .at) _ _ (m .lesser .ensures) (n .lesser2 .ensures)) (c .step-over .ensures)
 
 pub step-spec : {M : Type 1} → statement M
 step-spec =
