@@ -49,9 +49,9 @@ single-outside n len h = rw (le-ltb 134217728 n h) (sym (or-false (ltb n 352)))
 pub pair-outside : (n len : ℕ) → n ≤ offsetLimit → ltb offsetLimit len ≡ offsetOutside Pair n len
 pair-outside n len h = rw (le-ltb 134217728 n h)
 
-same-naturalOf : (z : ℤ) (n : ℕ) → isNumber z n ≡ true → naturalOf z ≡ n
-same-naturalOf (pos m) n e = eqb-true m n e
-same-naturalOf (negsuc m) n e = let z : _≡_ {A = ℕ} 0 1 = cc in absurd (omega arith)
+same-natural : (z : ℤ) (n : ℕ) → isNumber z n ≡ true → naturalOf z ≡ n
+same-natural (pos m) n e = eqb-true m n e
+same-natural (negsuc m) n e = let z : _≡_ {A = ℕ} 0 1 = cc in absurd (omega arith)
 
 -- bitpix and the datatype's bits, compared as they are stored
 module _ (t : Format) (z : ℤ) (s : Sound t) (fits : SFits w16 z) where
@@ -96,7 +96,7 @@ module _ (f : Shape) (len : ℕ) where
       pub voxel-bytes : naturalOf (f .bitpix) / 8 ≡ t .bytes
       voxel-bytes =
           let s = known-sound (f .datatype) t (h .format .known) in
-          let e : naturalOf (f .bitpix) ≡ t .bytes * 8 = same-naturalOf (f .bitpix) (naturalOf (t .bits)) (h .bits) ∙ ap naturalOf (s .bits) in
+          let e : naturalOf (f .bitpix) ≡ t .bytes * 8 = same-natural (f .bitpix) (naturalOf (t .bits)) (h .bits) ∙ ap naturalOf (s .bits) in
           rw e (omega arith)
 
       -- the product that is taken with the datatype's bytes and dim[0] axes is the image's

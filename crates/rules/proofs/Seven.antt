@@ -26,9 +26,9 @@ seven-bits n = by (ltb n 32768) refl
     by false e = seven-above n (ltb-false n 32768 e)
 
 -- and by the number of axes that it states
-pub seven-naturalOf : (z : ℤ) → oneToSeven z ≡ (leb 1 (naturalOf z) && leb (naturalOf z) 7)
-seven-naturalOf (pos n) = refl
-seven-naturalOf (negsuc n) = refl
+pub seven-natural : (z : ℤ) → oneToSeven z ≡ (leb 1 (naturalOf z) && leb (naturalOf z) 7)
+seven-natural (pos n) = refl
+seven-natural (negsuc n) = refl
 
 -- what a record's rule 2 decides
 module _ (h : Header) where

@@ -22,7 +22,7 @@ use Rattle.rules.specs.declared.Image.{Image}
 use Rattle.rules.specs.declared.Judged.the-variants.{Passed}
 use Rattle.rules.specs.Rules.{oneToSeven, axisCount, imageOf, shapeOfRecord, recordRows, recordJudged}
 use Rattle.rules.proofs.Passed.{Fields, clear-fields, fields-offset, record-passed-is}
-use Rattle.rules.proofs.Seven.{seven-naturalOf}
+use Rattle.rules.proofs.Seven.{seven-natural}
 use Rattle.rules.proofs.Judging.{HasOffset, voxel-bytes}
 use Rattle.voxel.specs.Voxel.{lengthsOf, voxelBytes}
 
@@ -30,7 +30,7 @@ use Rattle.voxel.specs.Voxel.{lengthsOf, voxelBytes}
 axes-few : (z : ℤ) → not (oneToSeven z) ≡ false → naturalOf z ≤ 7
 axes-few z e =
     let n : ℕ = naturalOf z in
-    let p = and-eq-true-iff (leb 1 n) (leb n 7) .0 (sym (seven-naturalOf z) ∙ not-false (oneToSeven z) e) in
+    let p = and-eq-true-iff (leb 1 n) (leb n 7) .0 (sym (seven-natural z) ∙ not-false (oneToSeven z) e) in
     leb-true n 7 (p .1)
 
 -- rules 6 and 7: the datatype has a format, and a voxel has its bytes

@@ -9,7 +9,7 @@ use Rattle.number.specs.Natural.{naturalOf}
 use Rattle.grid.specs.Axes.{dimAt}
 use Rattle.header.specs.declared.Intent.{Intent}
 use Rattle.rules.specs.Rules.{oneToSeven, axisCount}
-use Rattle.rules.proofs.Seven.{seven-naturalOf, record-2, record-rest}
+use Rattle.rules.proofs.Seven.{seven-natural, record-2, record-rest}
 use borrow.Author.Needs.{needs}
 use Rattle.rules.proofs.judge_record.Statement.{statement}
 use Rattle.rules.proofs.judge_record.Tie as tie
@@ -18,21 +18,21 @@ few : (c : tie.Then1) → oneToSeven (dimAt (c .before .before .before .before .
 few c =
     let d = c .before .before .before .before .args .h .dim in
     let e = c .before .axis-count .ensures .0 in
-    seven-naturalOf (dimAt d 0) ∙ rw (lt-leb 1 (axisCount d) (omega arith))
+    seven-natural (dimAt d 0) ∙ rw (lt-leb 1 (axisCount d) (omega arith))
 
 many : (c : tie.Then2) → oneToSeven (dimAt (c .before .before .before .before .before .args .h .dim) 0) ≡ false
 many c =
     let d = c .before .before .before .before .before .args .h .dim in
     let n = axisCount d in
     let e = c .before .before .axis-count .ensures .0 in
-    seven-naturalOf (dimAt d 0) ∙ rw (le-leb 1 n (omega arith), lt-leb n 7 (omega arith))
+    seven-natural (dimAt d 0) ∙ rw (le-leb 1 n (omega arith), lt-leb n 7 (omega arith))
 
 held : (c : tie.Else2) → oneToSeven (dimAt (c .before .before .before .before .before .args .h .dim) 0) ≡ true
 held c =
     let d = c .before .before .before .before .before .args .h .dim in
     let n = axisCount d in
     let e = c .before .before .axis-count .ensures .0 in
-    seven-naturalOf (dimAt d 0) ∙ rw (le-leb 1 n (omega arith), le-leb n 7 (omega arith))
+    seven-natural (dimAt d 0) ∙ rw (le-leb 1 n (omega arith), le-leb n 7 (omega arith))
 
 slice-aggregate-axis-count : tie.Need-slice-aggregate-axis-count
 slice-aggregate-axis-count c = search needs

@@ -1,5 +1,5 @@
 -- `say_float` is safe: a finite number is not a NaN.
-use Rattle.slice_table.proofs.Numbers.{finite-no-nan}
+use Rattle.number.proofs.Floats.{finite-no-nan}
 use borrow.Author.Needs.{needs}
 use Rattle.slice_table.proofs.say_float.Statement.{statement}
 use Rattle.slice_table.proofs.say_float.Tie as tie

@@ -1,2 +1,0 @@
--- A law that the functions' proofs cite.
-pub mod Numbers
