@@ -3,7 +3,6 @@
 ghost use mathlib.Core.Path.{_≡_};
 ghost use mathlib.Core.List.{[], _∷_};
 ghost use Prim.Native.Nat.{_<_};
-ghost use lib.ListN.{length};
 ghost use Rattle.field.specs.Numbers.{bytesAt};
 ghost use Rattle.refusal.specs.Table.{verdict};
 ghost use Rattle.layout.specs.File.{sameBytes, holdsIn, orderOf, hasMagic, kindOf, startIn, shapeIn, cutExtender};

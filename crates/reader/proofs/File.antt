@@ -10,37 +10,31 @@ use native.Mathlib.Omega.{arith}
 use borrow.Author.Tests.{eqb-true, ltb-false, le-ltb, not-false}
 use lib.Dec.{ltb, eqb}
 use lib.IntN.{ℤ, pos, negsuc}
-use lib.ListN.{length, take, replicate}
-use lib.Seq.{take-append-seam}
+use lib.ListN.{length}
 use Rattle.field.specs.declared.Order.the-variants.{Little, Big}
-use Rattle.field.specs.Numbers.{bytesAt, i32At, joined}
-use Rattle.refusal.specs.declared.Verdict.{Verdict}
+use Rattle.field.specs.Numbers.{i32At, joined}
 use Rattle.refusal.specs.declared.Verdict.the-variants.{Accepted}
 use Rattle.refusal.specs.Table.{Row, row, verdict}
 use Rattle.refusal.proofs.Rows.{Clear, none, one, accepted-clear, clear-accepted, clear-append, clear-split, decided-accepted, refused-never}
-use Rattle.number.specs.Natural.{naturalOf}
-use Rattle.datatype.specs.declared.Format.{Format}
-use Rattle.datatype.specs.declared.Datatype.{Datatype}
-use Rattle.datatype.specs.declared.Datatype.the-variants.{Known, Unknown}
-use Rattle.datatype.specs.Datatypes.{datatypeOf, isNumber}
-use Rattle.offset.specs.Offset.{isWhole, wholeOf, offsetLimit}
-use Rattle.grid.specs.Axes.{dimAt, imageLimit}
+use Rattle.datatype.specs.Datatypes.{isNumber}
+use Rattle.offset.specs.Offset.{wholeOf, offsetLimit}
+use Rattle.grid.specs.Axes.{dimAt}
 use Rattle.extension.specs.declared.Span.{Span}
-use Rattle.extension.specs.Walk.{extensionLimit, firstPlace, Walked, listed, stopped, restOf, walk, extensionsIn}
-use Rattle.extension.specs.Listing.{noSpan, spansOf}
+use Rattle.extension.specs.Walk.{extensionLimit, firstPlace, Walked, listed, stopped, restOf, extensionsIn}
+use Rattle.extension.specs.Listing.{spansOf}
 use Rattle.extension.specs.Fills.{Fills}
 use Rattle.extension.specs.Pieces.{pieces, AllComplete, spansFrom}
 use Rattle.extension.specs.Pieces as Pieces
 use Rattle.extension.proofs.Walks.{stopped-never}
-use Rattle.extension.proofs.Pieces.{opened, walk-join, length-spansFrom}
+use Rattle.extension.proofs.Pieces.{opened}
 use Rattle.extension.proofs.Fills.{extensions-fill}
 use Rattle.header.specs.declared.Kind.{Kind}
 use Rattle.header.specs.declared.Kind.the-variants.{Single, Pair}
-use Rattle.header.specs.Fields.{headerOf, magicOf}
+use Rattle.header.specs.Fields.{headerOf}
 use Rattle.header.proofs.Distinct.{single-never}
 use Rattle.rules.specs.declared.Shape.{Shape}
 use Rattle.rules.specs.declared.Image.{Image}
-use Rattle.rules.specs.Rules.{oneToSeven, firstBad, statesBits, isKnown, offsetOutside, bytesOfImage, imageOf, cutShort, regionEnd}
+use Rattle.rules.specs.Rules.{oneToSeven, offsetOutside, imageOf, cutShort, regionEnd}
 use Rattle.rules.specs.Rules.{fieldRows, shapeOfRecord, recordRows}
 use Rattle.rules.proofs.Passed.{neither, Fields, clear-fields, fields-clear}
 use Rattle.layout.specs.File.{holdsIn, orderOf, sameBytes, hasMagic, kindOf, shapeIn, shapeOf, cutExtender, hasNone, hasExtensions}

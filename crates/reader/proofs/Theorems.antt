@@ -1,6 +1,6 @@
 -- The reader's theorems, over the definitions that its promise cites (docs/PROMISES.md names each); `accepted-exactly` and what an
 -- accepted file is like stand in proofs/File.antt.
-use Prim.Native.Nat.{ℕ, _+_, _*_, _≤_, _<_}
+use Prim.Native.Nat.{ℕ, _+_, _*_, _≤_}
 use mathlib.Core.Path.{_≡_, refl, ap, sym, _∙_}
 use mathlib.Core.Bool.{Bool, true, false, cond, _&&_, and-false, and-eq-true-iff}
 use mathlib.Core.List.{List, []}
@@ -26,7 +26,7 @@ use Rattle.rules.specs.Rules.{imageOf, regionEnd}
 use Rattle.rules.proofs.Seven.{seven-bits}
 use Rattle.layout.specs.File.{holdsIn, orderOf, kindOf, shapeOf, hasExtensions, fileRows, layoutOf, endOf}
 use Rattle.reader.specs.Reading.{extensionsOf, judgement, readingBy, readingOf, IsAccepted}
-use Rattle.reader.proofs.File.{regionOf, Lists, rules-clear, accepted-exactly, AcceptedFile, IsFile, accepted-file, accepted-list}
+use Rattle.reader.proofs.File.{regionOf, Lists, accepted-exactly, accepted-file, accepted-list}
 
 -- "Never both: a value 1..7 reads at least 256 in the other order."
 small-pair : (a b : ℕ) → (leb 1 (a + 256 * (b + 256 * 0)) && leb (a + 256 * (b + 256 * 0)) 7) ≡ true

@@ -1,7 +1,7 @@
 -- What rules 5 to 10 decide, rule by rule: each law names the rules that have passed and the one that refuses.
 use Prim.Native.Nat.{ℕ, zero, suc, _+_, _*_, _/_, _<_, _≤_}
 use mathlib.Core.Path.{_≡_, refl, ap, sym, _∙_}
-use mathlib.Core.Bool.{Bool, true, false, _||_, or-false, false≢true}
+use mathlib.Core.Bool.{true, false, or-false, false≢true}
 use mathlib.Core.List.{List}
 use native.Mathlib.Omega.{arith}
 use borrow.Author.Tests.{ne-eqb, eq-eqb, eqb-true, lt-ltb, le-ltb}
@@ -51,7 +51,7 @@ pair-outside n len h = rw (le-ltb 134217728 n h)
 
 same-natural : (z : ℤ) (n : ℕ) → isNumber z n ≡ true → naturalOf z ≡ n
 same-natural (pos m) n e = eqb-true m n e
-same-natural (negsuc m) n e = let z : _≡_ {A = ℕ} 0 1 = cc in absurd (omega arith)
+same-natural (negsuc m) n e = absurd (false≢true e)
 
 -- bitpix and the datatype's bits, compared as they are stored
 module _ (t : Format) (z : ℤ) (s : Sound t) (fits : SFits w16 z) where

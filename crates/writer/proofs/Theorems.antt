@@ -9,7 +9,7 @@ use Rattle.field.specs.Numbers.{bytesAt}
 use Rattle.refusal.specs.declared.Verdict.the-variants.{Accepted}
 use Rattle.refusal.proofs.Rows.{none, one, clear-accepted, clear-append}
 use Rattle.reader.specs.Reading.{readingOf, IsAccepted}
-use Rattle.layout.specs.File.{orderOf, kindOf, hasMagic, layoutOf}
+use Rattle.layout.specs.File.{orderOf, kindOf, hasMagic}
 use Rattle.encode.specs.Encode.{encode}
 use Rattle.encode.proofs.Round.{header-back}
 use Rattle.extension.specs.Listing.{spansOf}

@@ -10,7 +10,7 @@ use lib.Seq.{sets}
 use Rattle.refusal.specs.declared.Refusal.{Refusal}
 use Rattle.refusal.specs.declared.Verdict.{Verdict}
 use Rattle.refusal.specs.declared.Verdict.the-variants.{Accepted, Refused}
-use Rattle.refusal.specs.Table.{row, refusal, verdict, decided, then}
+use Rattle.refusal.specs.Table.{row, refusal, verdict, then}
 use Rattle.refusal.proofs.Rows.{verdict-append}
 use Rattle.field.proofs.Stores.{sets-front}
 use Rattle.extension.specs.declared.Span.{Span}
@@ -22,7 +22,7 @@ use Rattle.rules.specs.declared.Image.{Image}
 use Rattle.rules.specs.declared.Judged.the-variants.{Passed, Failed}
 use Rattle.rules.specs.Rules.{recordRows, recordJudged}
 use Rattle.rules.proofs.Passed.{record-passed-is, record-failed-is}
-use Rattle.writer.specs.Write.{writeRows, writeAnswer, written}
+use Rattle.writer.specs.Write.{writeAnswer, written}
 
 -- an answer and a content, as a call promises them
 abbrev pub Writes : Header → List ℕ → Verdict → List ℕ → Type 0

@@ -1,7 +1,7 @@
 -- `list` meets its contract: at each turn the spans so far and the walk that is left are the whole walk (proofs/Filled.antt).
 -- The measure is how many extensions may still come.
 use Prim.Native.Nat.{_+_, _<_}
-use mathlib.Core.Path.{_≡_, refl, sym, _∙_}
+use mathlib.Core.Path.{_≡_, sym, _∙_}
 use mathlib.Core.List.{[]}
 use native.Mathlib.Omega.{arith}
 use borrow.Author.Needs.{needs}

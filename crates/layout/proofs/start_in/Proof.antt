@@ -13,7 +13,7 @@ use mir.Val.{ofZ}
 use Rattle.field.specs.Numbers.{i32At}
 use Rattle.datatype.specs.Datatypes.{isNumber}
 use Rattle.datatype.proofs.Bits.{number-bits}
-use Rattle.layout.specs.File.{holdsIn, orderOf, hasMagic, kindOf}
+use Rattle.layout.specs.File.{holdsIn, orderOf}
 use Rattle.layout.proofs.Starting.{starts-1, starts-2, starts-3, starts-4, starts-read}
 use borrow.Author.Needs.{needs}
 use Rattle.layout.proofs.start_in.Statement.{statement}

@@ -5,7 +5,6 @@ use native.Mathlib.Omega.{arith}
 use borrow.Author.Tests.{le-leb, lt-leb}
 use mir.Syntax.{w16}
 use mir.Val.{toZ, ofZ}
-use Rattle.number.specs.Natural.{naturalOf}
 use Rattle.grid.specs.Axes.{dimAt}
 use Rattle.header.specs.declared.Intent.{Intent}
 use Rattle.rules.specs.Rules.{oneToSeven, axisCount}
