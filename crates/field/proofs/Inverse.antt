@@ -12,7 +12,8 @@ use mir.Val.{Fits, ofZ}
 use mir.ValLaws.{ofZ-toZ}
 use Rattle.field.specs.declared.Order.{Order}
 use Rattle.field.specs.declared.Order.the-variants.{Little, Big}
-use Rattle.field.specs.Numbers.{tabulate, bytesAt, padded, littleValue, other, lowFirst, numberOf, littleBytes, bytesOf, u16At, u32At, i16At, i32At}
+use Rattle.field.specs.Numbers.{tabulate, bytesAt, padded, littleValue, other, lowFirst, numberOf, littleBytes, bytesOf}
+use Rattle.field.specs.Numbers.{u16At, u32At, i16At, i32At}
 use Rattle.field.proofs.Tabulate.{bytesAt-part}
 use Rattle.field.proofs.Stores.{length-bytesOf}
 
@@ -115,8 +116,9 @@ length-littleBytes (suc w) n = ap suc (length-littleBytes w (n / 256))
 pub bytes-number : (order : Order) (w n : ℕ) → n < 256 ^ w → numberOf order (bytesOf order w n) ≡ n
 unfolding bytesOf
 bytes-number order w n h =
-    let len : length (lowFirst order (littleBytes w n)) ≡ w = length-lowFirst order (littleBytes w n) ∙ length-littleBytes w n in
-    let all : padded w (lowFirst order (littleBytes w n)) ≡ lowFirst order (littleBytes w n) = rw len at (padded-all (lowFirst order (littleBytes w n))) in
+    let l = lowFirst order (littleBytes w n) in
+    let len : length l ≡ w = length-lowFirst order (littleBytes w n) ∙ length-littleBytes w n in
+    let all : padded w l ≡ l = rw len at (padded-all l) in
     rw (all, lowFirst-twice) (littleValue-of w n h)
 
 -- a number of four bytes, read where it stands

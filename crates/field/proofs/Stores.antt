@@ -70,7 +70,9 @@ length-u32s order n l = length-joined (λ i. bytesOf order 4 (getD l i 0)) 4 (λ
 
 pub length-i16s : (order : Order) (n : ℕ) (l : List ℤ) → length (i16sBytes order n l) ≡ n * 2
 unfolding i16sBytes
-length-i16s order n l = length-joined (λ i. bytesOf order 2 (ofZ w16 (getD l i (pos 0)))) 2 (λ i. length-bytesOf order 2 (ofZ w16 (getD l i (pos 0)))) n
+length-i16s order n l =
+    let b : ℕ → ℕ = λ i. ofZ w16 (getD l i (pos 0)) in
+    length-joined (λ i. bytesOf order 2 (b i)) 2 (λ i. length-bytesOf order 2 (b i)) n
 
 -- stores at the front, where they fit
 pub sets-front : (p l : List ℕ) → length p ≤ length l → sets l 0 p ≡ p ++ drop (length p) l

@@ -19,7 +19,8 @@ module _ {ℓ} {A : Type ℓ} where
   tabulate-more f (suc n) = ap (λ (l : List A). f 0 ∷ l) (tabulate-more (λ i. f (suc i)) n)
 
   -- a turn of a loop that fills a list from the front
-  pub tabulate-fill : (f : ℕ → A) (z : A) (d : List A) (n : ℕ) → n < length d → set (tabulate f n ++ drop n d) n (f n) ≡ tabulate f (n + 1) ++ drop (n + 1) d
+  pub tabulate-fill : (f : ℕ → A) (z : A) (d : List A) (n : ℕ) → n < length d
+      → set (tabulate f n ++ drop n d) n (f n) ≡ tabulate f (n + 1) ++ drop (n + 1) d
   tabulate-fill f z d n h =
       rw (add-one, drop-cons d n z)
       (set-at (tabulate f n) (getD d n z) (drop (suc n) d) (f n) n (length-tabulate f n)

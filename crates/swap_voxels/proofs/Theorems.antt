@@ -8,28 +8,30 @@ use native.Mathlib.Nat.{zero-div, mul-comm}
 use lib.ListN.{length, take, drop}
 use Rattle.refusal.specs.declared.Refusal.{Refusal}
 use Rattle.refusal.specs.declared.Verdict.the-variants.{Accepted}
+use Rattle.refusal.specs.Table.{decided}
 use Rattle.datatype.specs.declared.Format.{Format}
 use Rattle.datatype.specs.declared.Datatype.the-variants.{Known}
 use Rattle.datatype.specs.Datatypes.{datatypeOf}
-use Rattle.grid.specs.Grid.{rank}
+use Rattle.grid.specs.Grid.{voxelNumber}
 use Rattle.header.specs.declared.Header.{Header}
 use Rattle.rules.specs.declared.Shape.{Shape}
 use Rattle.rules.specs.declared.Image.{Image}
-use Rattle.rules.specs.Rules.{imageOf, shapeOfRecord}
-use Rattle.reader.specs.File.{orderOf, kindOf, shapeIn, shapeOf, holder}
+use Rattle.rules.specs.Rules.{imageOf, shapeOfRecord, holder}
+use Rattle.layout.specs.File.{orderOf, kindOf, shapeIn, shapeOf}
 use Rattle.reader.specs.Reading.{readingOf, IsAccepted}
-use Rattle.reader.proofs.Accepted.{accepted-shape, accepted-image}
+use Rattle.reader.proofs.File.{accepted-shape, accepted-image}
 use Rattle.units.specs.Units.{turned}
 use Rattle.voxel.specs.declared.Extent.{Extent}
 use Rattle.voxel.specs.declared.Located.{Located}
 use Rattle.voxel.specs.declared.Located.the-variants.{At, Unlocated}
-use Rattle.voxel.specs.Voxel.{lengthsOf, locatedAfter, locatedIn, locatedOf, voxelOf}
+use Rattle.voxel.specs.Voxel.{lengthsOf, locatedIn, locatedOf, voxelOf}
 use Rattle.voxel.proofs.Sized.{Formed, record-formed}
 use Rattle.voxel.proofs.Locating.{Found}
 use Rattle.voxel.proofs.Theorems.{located-both, file-found, voxel-in-image, voxel-bytes-are, voxel-length, refused-empty}
 use Rattle.byteswap.specs.Swap.{unitIn, swapAnswer, swappedFile, swappedImage}
 use Rattle.byteswap.specs.Other.{readInOther}
-use Rattle.byteswap.proofs.Theorems.{swap-lengths, swap-reads, unit-is, swap-voxel}
+use Rattle.byteswap.proofs.Whole.{unit-known}
+use Rattle.byteswap.proofs.Theorems.{swap-lengths, swap-reads, swap-voxel}
 use Rattle.swap_voxels.specs.Turned.{turnedVoxel}
 
 module _ (file image index : List ℕ) (a : swapAnswer file image ≡ Accepted) where
@@ -51,10 +53,11 @@ module _ (file image index : List ℕ) (a : swapAnswer file image ≡ Accepted) 
   -- the byte order is the one field that changes, and no place depends on it
   same-answer : locatedOf file′ image′ index ≡ locatedOf file image index
   unfolding locatedOf locatedIn
-  same-answer = λ i. locatedAfter (reads i .verdict) (locatedIn (reads i .header) (swap-lengths file image .1 i) index)
+  same-answer = λ i. decided (reads i .verdict) (locatedIn (reads i .header) (swap-lengths file image .1 i) index) Unlocated
 
   -- an index that is refused
-  refused-turned : (r : Refusal) → locatedOf file image index ≡ Unlocated r → voxelOf file′ image′ index ≡ turnedVoxel unit (voxelOf file image index)
+  refused-turned : (r : Refusal) → locatedOf file image index ≡ Unlocated r
+      → voxelOf file′ image′ index ≡ turnedVoxel unit (voxelOf file image index)
   unfolding turned
   refused-turned r d = rw (refused-empty file′ image′ index r (same-answer ∙ d), refused-empty file image index r d, zero-div unit)
 
@@ -74,7 +77,7 @@ module _ (file image index : List ℕ) (a : swapAnswer file image ≡ Accepted) 
 
     -- how many voxels come before it
     abbrev before : ℕ
-    before = rank (lengthsOf header) index
+    before = voxelNumber (lengthsOf header) index
 
     same-image : imageOf (shapeOfRecord header) ≡ imageOf (shapeOf file)
     same-image = ap imageOf (accepted-shape file accepted)
@@ -87,7 +90,7 @@ module _ (file image index : List ℕ) (a : swapAnswer file image ≡ Accepted) 
     known = ap (λ (s : Shape). datatypeOf (s .datatype)) (sym (accepted-shape file accepted)) ∙ formed .known
 
     same-unit : unit ≡ format .unit
-    same-unit = unit-is file image a format known
+    same-unit = unit-known file format known
 
     same-length : e .length ≡ format .bytes
     same-length = ap (λ (x : Extent). x .length) (sym (place-found .is)) ∙ formed .bytes
@@ -123,7 +126,8 @@ module _ (file image index : List ℕ) (a : swapAnswer file image ≡ Accepted) 
         ∙ swap-voxel file image a format known before inside
         ∙ sym (λ i. turned (same-unit i) (bytes i / same-unit i) (voxel-is i))
 
-  voxel-turned : (l : Located) → locatedOf file image index ≡ l → voxelOf file′ image′ index ≡ turnedVoxel unit (voxelOf file image index)
+  voxel-turned : (l : Located) → locatedOf file image index ≡ l
+      → voxelOf file′ image′ index ≡ turnedVoxel unit (voxelOf file image index)
   voxel-turned (At e) d = located-turned e d
   voxel-turned (Unlocated r) d = refused-turned r d
 
@@ -132,7 +136,8 @@ pub record VoxelTurned (file image index : List ℕ) : Type 0 where
   -- the same place and length, or the same refusal with the same place
   pub answer : locatedOf (swappedFile file image) (swappedImage file image) index ≡ locatedOf file image index
   -- each unit of the voxel turned round; where the index is refused there are no bytes, before and after
-  pub bytes : voxelOf (swappedFile file image) (swappedImage file image) index ≡ turnedVoxel (unitIn (orderOf file) file) (voxelOf file image index)
+  pub bytes : voxelOf (swappedFile file image) (swappedImage file image) index
+      ≡ turnedVoxel (unitIn (orderOf file) file) (voxelOf file image index)
 
 pub swap-voxels : (file image index : List ℕ) → swapAnswer file image ≡ Accepted → VoxelTurned file image index
 swap-voxels file image index a =

@@ -11,8 +11,7 @@ use Rattle.encode.proofs.write_quatern.Tie as tie
 
 -- the group that is written, where its first signed number is passed on: each of them fits, so that it is read back as it is
 abbrev g : tie.After-struct-told → Quatern
-g c =
-    c .before .before .before .args .g
+g c = c .before .before .before .args .g
 
 qform-code-same : (c : tie.After-struct-told) → toZ w16 (ofZ w16 (g c .«qform_code»)) ≡ g c .«qform_code»
 qform-code-same c = search needs

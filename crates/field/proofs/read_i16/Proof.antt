@@ -14,7 +14,9 @@ signed16-requires : tie.Need-signed16-requires
 signed16-requires c κs = search needs
 
 returns : tie.Need-returns
-returns c = toZ-ofZ w16 (c .signed16 .result) (record { sfits = c .signed16 .ok }) ∙ c .signed16 .ensures ∙ ap (toZ w16) (c .before .read-u16 .ensures)
+returns c =
+    let s = c .signed16 in
+    toZ-ofZ w16 (s .result) (record { sfits = s .ok }) ∙ s .ensures ∙ ap (toZ w16) (c .before .read-u16 .ensures)
 
 pub read-i16-spec : {M : Type 1} → statement M
 read-i16-spec = tie.close (tie.spec read-u16-requires signed16-requires returns)

@@ -14,7 +14,9 @@ signed32-requires : tie.Need-signed32-requires
 signed32-requires c κs = search needs
 
 returns : tie.Need-returns
-returns c = toZ-ofZ w32 (c .signed32 .result) (record { sfits = c .signed32 .ok }) ∙ c .signed32 .ensures ∙ ap (toZ w32) (c .before .read-u32 .ensures)
+returns c =
+    let s = c .signed32 in
+    toZ-ofZ w32 (s .result) (record { sfits = s .ok }) ∙ s .ensures ∙ ap (toZ w32) (c .before .read-u32 .ensures)
 
 pub read-i32-spec : {M : Type 1} → statement M
 read-i32-spec = tie.close (tie.spec read-u32-requires signed32-requires returns)

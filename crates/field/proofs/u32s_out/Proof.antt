@@ -11,7 +11,8 @@ use Rattle.field.proofs.u32s_out.Statement.{statement}
 use Rattle.field.proofs.u32s_out.Tie as tie
 
 abbrev Inv-loop : tie.InvT-loop
-Inv-loop s at order out₀ i₀ out i = (i ≤ length out₀) × (length out ≡ length out₀) × (out ≡ tabulate (λ k. u32At order s (at + k * 4)) i ++ drop i out₀)
+Inv-loop s at order out₀ i₀ out i =
+    (i ≤ length out₀) × (length out ≡ length out₀) × (out ≡ tabulate (λ k. u32At order s (at + k * 4)) i ++ drop i out₀)
 
 abbrev μ-loop : tie.MeasureT-loop
 μ-loop s at order out₀ i₀ out i = length out₀ - i
