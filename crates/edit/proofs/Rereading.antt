@@ -1,55 +1,66 @@
--- The fresh file, read again: none of rules 1 to 15 holds of it, and its extensions are the edited list.
+-- The fresh file, read again: none of rules 1 to 15 holds of it, its extensions are the edited list, and its record is the old one after
+-- the edit.
 use Prim.Native.Nat.{ℕ, suc, _+_, _-_, _%_, _≤_, _<_}
-use mathlib.Core.Path.{_≡_, refl, sym, ap, subst, _∙_}
-use mathlib.Core.Bool.{true, false, not, _||_, and-false}
+use mathlib.Core.Path.{_≡_, refl, sym, ap, _∙_}
+use mathlib.Core.Bool.{true, false, _||_, and-false}
 use mathlib.Core.List.{List, [], _∷_, _++_, append-assoc}
 use native.Mathlib.Omega.{arith}
 use borrow.Author.Tests.{ltb-false, le-ltb}
 use lib.Dec.{ltb}
 use lib.IntN.{natAbs}
-use lib.ListN.{length, take, drop, length-append, length-drop}
+use lib.ListN.{length, getD, take, drop, length-append, length-drop}
 use lib.Seq.{take-at, drop-at}
+use mir.Syntax.{w32}
+use mir.Val.{toZ}
 use Rattle.field.specs.declared.Order.{Order}
-use Rattle.field.specs.declared.Order.the-variants.{Little, Big}
-use Rattle.field.specs.Numbers.{bytesAt, u32At, i16At, i32At, i16sAt, joined}
+use Rattle.field.specs.Numbers.{bytesAt, u32At, i32At, joined}
 use Rattle.field.proofs.Tabulate.{bytesAt-part}
-use Rattle.refusal.proofs.Rows.{Clear, none, one, clear-accepted, clear-append}
+use Rattle.refusal.specs.declared.Verdict.the-variants.{Accepted}
+use Rattle.number.proofs.Lists.{drop-take}
 use Rattle.offset.specs.Offset.{offsetLimit, offsetBits, isWhole, wholeOf}
 use Rattle.offset.proofs.Back.{back-whole, back-value}
-use Rattle.extension.specs.Walk.{extensionLimit, firstPlace, listed, restOf, extensionsIn}
-use Rattle.extension.specs.Pieces.{pieces, Wholes, spansFrom}
-use Rattle.extension.specs.Pieces as Pieces
-use Rattle.extension.proofs.Pieces.{placed-listed}
+use Rattle.extension.specs.declared.Span.{Span}
+use Rattle.extension.specs.Walk.{extensionLimit, firstPlace, listed, extensionsIn}
+use Rattle.extension.specs.Listing.{spansOf}
+use Rattle.extension.specs.Pieces.{pieces, AllComplete, none, one, spansFrom}
+use Rattle.extension.proofs.Pieces.{placed-listed, length-spansFrom}
 use Rattle.header.specs.declared.Kind.{Kind}
 use Rattle.header.specs.declared.Kind.the-variants.{Single, Pair}
-use Rattle.datatype.specs.Datatypes.{isNumber}
+use Rattle.header.specs.Fields.{headerOf}
+use Rattle.header.proofs.Distinct.{single-never}
 use Rattle.rules.specs.declared.Shape.{Shape}
 use Rattle.rules.specs.declared.Image.{Image}
-use Rattle.rules.specs.Rules.{fieldRows, imageOf, offsetOutside}
-use Rattle.rules.proofs.Passed.{neither}
-use Rattle.reader.specs.File.{holdsIn, orderOf, hasMagic, kindOf, shapeIn, shapeOf, cutShort, cutExtender, hasNone, hasExtensions, noExtensions, someExtensions, sameBytes, fileRows, layoutOf, regionEnd, extensionsOf, judgement}
-use Rattle.buffer.proofs.Laws.{drop-take}
-use Rattle.edit_plan.specs.Fresh.{endOf, extensionList, tailBy, tailOf, extenderFor, endFor, headFor, freshFile}
+use Rattle.rules.specs.Rules.{imageOf, offsetOutside, shapeOfRecord, cutShort, regionEnd}
+use Rattle.rules.proofs.Passed.{neither, Fields}
+use Rattle.layout.specs.File.{orderOf, kindOf, shapeIn, shapeOf, cutExtender, hasNone, hasExtensions}
+use Rattle.layout.specs.File.{noExtensions, someExtensions, sameBytes, layoutOf, endOf}
+use Rattle.reader.specs.declared.Reading.{Reading}
+use Rattle.reader.specs.Reading.{extensionsOf, readingOf}
+use Rattle.reader.proofs.File.{regionOf, Rules, AcceptedFile, judged-file, file-judged, file-reads}
+use Rattle.edit_plan.specs.Fresh.{extensionList, tailBy, tailOf, extenderFor, endFor, headFor, freshFile}
 use Rattle.edit_plan.proofs.Planning.{length-extender, length-top, length-fresh}
-use Rattle.edit.proofs.Keeping.{before, same-u32, same-i16, same-dims, same-holds, same-order, same-magic, same-kind, single-offset, pair-offset}
+use Rattle.edit.specs.After.{anewIn, readAfter}
+use Rattle.edit.proofs.Keeping.{agrees, same-holds, same-order, same-magic, same-kind, header-is}
 
--- the spans of whole extensions cut them out of their joined bytes again
-pieces-joined : {order : Order} (at : ℕ) {xs : List (List ℕ)} → Wholes order xs → pieces (spansFrom order at xs) (joined xs) ≡ xs
+-- the spans of complete extensions cut them out of their joined bytes again
+pieces-joined : {order : Order} (at : ℕ) {xs : List (List ℕ)} → AllComplete order xs → pieces (spansFrom order at xs) (joined xs) ≡ xs
 unfolding pieces spansFrom
-pieces-joined at Pieces.none = refl
-pieces-joined {order} at (Pieces.one {x} {xs} w ws) =
+pieces-joined at none = refl
+pieces-joined {order} at (one {x} {xs} w ws) =
     let n : natAbs (i32At order x 0) ≡ length x = ap natAbs (w .size) in
     rw (n, take-at x (joined xs) (length x) refl, drop-at x (joined xs) (length x) refl, pieces-joined (at + length x) ws)
 
 -- ---- the fields
 
--- vox_offset's bits after an edit whose region ends at `end`
-abbrev pub offsetFor : Kind → ℕ → ℕ → ℕ
-offsetFor Single end bits = offsetBits end
-offsetFor Pair end bits = bits
-
-abbrev pub reshaped : ℕ → Shape → Shape
-reshaped end s = record { kind = s .kind; dim = s .dim; datatype = s .datatype; bitpix = s .bitpix; «vox_offset» = offsetFor (s .kind) end (s .«vox_offset») }
+abbrev reshaped : ℕ → Shape → Shape
+reshaped end s =
+    record {
+      kind = s .kind;
+      dim = s .dim;
+      datatype = s .datatype;
+      bitpix = s .bitpix;
+      «vox_offset» = anewIn (s .kind) (offsetBits end) (s .«vox_offset»);
+    }
 
 -- where a region may end
 pub record Ends (end : ℕ) : Type 0 where
@@ -57,18 +68,20 @@ pub record Ends (end : ℕ) : Type 0 where
   pub least : firstPlace ≤ end
   pub most : end ≤ offsetLimit
 
-clear-fields : (kind : Kind) (end len len' : ℕ) (s : Shape) → Ends end → s .kind ≡ kind → (kind ≡ Pair → len' ≤ offsetLimit) → Clear (fieldRows s len)
-    → Clear (fieldRows (reshaped end s) len')
-clear-fields Single end len len' s e k p (one r5 (one r6 (one r7 (one r8 (one r9 (one r10 none)))))) =
-    let e8 : not (isWhole (offsetFor (s .kind) end (s .«vox_offset»))) ≡ false = rw (k, back-whole end (e .units) (e .most)) in
-    let e9 : offsetOutside (s .kind) (wholeOf (offsetFor (s .kind) end (s .«vox_offset»))) len' ≡ false =
-    rw (k, back-value end (e .units) (e .most), le-ltb end 352 (e .least), le-ltb offsetLimit end (e .most)) in
-    one r5 (one r6 (one r7 (one e8 (one e9 (one r10 none)))))
-clear-fields Pair end len len' s e k p (one r5 (one r6 (one r7 (one r8 (one r9 (one r10 none)))))) =
-    let n = neither (ltb offsetLimit (wholeOf (s .«vox_offset»))) (ltb offsetLimit len) (rw k at r9) in
-    let e8 : not (isWhole (offsetFor (s .kind) end (s .«vox_offset»))) ≡ false = rw k r8 in
-    let e9 : offsetOutside (s .kind) (wholeOf (offsetFor (s .kind) end (s .«vox_offset»))) len' ≡ false = rw (k, n .0, le-ltb offsetLimit len' (p refl)) in
-    one r5 (one r6 (one r7 (one e8 (one e9 (one r10 none)))))
+-- rules 8 and 9 of the new offset
+offset-passes : (kind : Kind) (end bits len len' : ℕ) → Ends end → (kind ≡ Pair → len' ≤ offsetLimit) → isWhole bits ≡ true
+    → offsetOutside kind (wholeOf bits) len ≡ false
+    → (isWhole (anewIn kind (offsetBits end) bits) ≡ true) × (offsetOutside kind (wholeOf (anewIn kind (offsetBits end) bits)) len' ≡ false)
+offset-passes Single end bits len len' e p w o =
+    (back-whole end (e .units) (e .most), rw (back-value end (e .units) (e .most), le-ltb end 352 (e .least), le-ltb offsetLimit end (e .most)))
+offset-passes Pair end bits len len' e p w o =
+    let n = neither (ltb offsetLimit (wholeOf bits)) (ltb offsetLimit len) o in
+    (w, rw (n .0, le-ltb offsetLimit len' (p refl)))
+
+fields-new : (end len len' : ℕ) (s : Shape) → Ends end → (s .kind ≡ Pair → len' ≤ offsetLimit) → Fields s len → Fields (reshaped end s) len'
+fields-new end len len' s e p t =
+    let o = offset-passes (s .kind) end (s .«vox_offset») len len' e p (t .whole) (t .inside) in
+    record { axes = t .axes; format = t .format; known = t .known; bits = t .bits; whole = o .0; inside = o .1; small = t .small }
 
 -- rules 11 and 12
 short-by : (kind : Kind) (len : ℕ) (image : Image) → (kind ≡ Single → image .offset + image .bytes ≤ len) → cutShort kind len image ≡ false
@@ -82,7 +95,7 @@ extender-by Pair len h = rw (le-ltb len 352 h) (and-false (ltb 348 len))
 -- what rule 11 left known of the old file
 long-by : (kind : Kind) (len : ℕ) (image : Image) → cutShort kind len image ≡ false → kind ≡ Single → image .offset + image .bytes ≤ len
 long-by Single len image e k = ltb-false len (image .offset + image .bytes) e
-long-by Pair len image e k = let z : _≡_ {A = ℕ} 0 1 = cc in absurd (omega arith)
+long-by Pair len image e k = single-never (sym k)
 
 -- T by the kind
 tail-pair : (f : List ℕ) → kindOf f ≡ Pair → tailOf f ≡ []
@@ -97,85 +110,71 @@ module _ (f : List ℕ) (xs : List (List ℕ)) (long : 348 ≤ length f) where
   abbrev g : List ℕ
   g = freshFile f xs
 
-  offset-is : u32At (orderOf g) g 108 ≡ offsetFor (kindOf f) (endFor xs) (u32At (orderOf f) f 108)
-  offset-is = ap (λ (o : Order). u32At o g 108) (same-order f xs long) ∙ by (kindOf f) refl
-    where
-      by : (k : Kind) → kindOf f ≡ k → u32At (orderOf f) g 108 ≡ offsetFor k (endFor xs) (u32At (orderOf f) f 108)
-      by Single k = single-offset f xs long k
-      by Pair k = pair-offset f xs long k (orderOf f)
+  abbrev head : List ℕ
+  head = headFor (kindOf f) (orderOf f) (endFor xs) (take 348 f)
 
   -- the fields that rules 5 to 10 judge are the old ones but for a single file's vox_offset
-  pub shape-is : shapeOf g ≡ reshaped (endFor xs) (shapeOf f)
-  unfolding shapeIn
-  shape-is =
-      let o = same-order f xs long in
-      let dims = ap (λ (x : Order). i16sAt x g 40 8) o ∙ same-dims f xs long (orderOf f) in
-      let type = ap (λ (x : Order). i16At x g 70) o ∙ same-i16 f xs long (orderOf f) 70 (before (omega arith)) in
-      let bits = ap (λ (x : Order). i16At x g 72) o ∙ same-i16 f xs long (orderOf f) 72 (before (omega arith)) in
-      λ i. record { kind = same-kind f xs long i; dim = dims i; datatype = type i; bitpix = bits i; «vox_offset» = offset-is i }
-
-  shape-kind : shapeOf f .kind ≡ kindOf f
-  unfolding shapeIn
-  shape-kind = refl
+  shape-is : shapeOf g ≡ reshaped (endFor xs) (shapeOf f)
+  unfolding shapeIn headerOf
+  shape-is = ap shapeOfRecord (header-is f xs long 0 [])
 
   -- ---- the bytes behind the header
 
-  front-of : g ≡ (headFor (kindOf f) (orderOf f) (endFor xs) (take 348 f) ++ extenderFor xs) ++ (joined xs ++ tailOf f)
+  front-of : g ≡ (head ++ extenderFor f xs) ++ (joined xs ++ tailOf f)
   unfolding freshFile
-  front-of = sym (append-assoc (headFor (kindOf f) (orderOf f) (endFor xs) (take 348 f)) (extenderFor xs) (joined xs ++ tailOf f))
+  front-of = sym (append-assoc head (extenderFor f xs) (joined xs ++ tailOf f))
 
-  front-long : length (headFor (kindOf f) (orderOf f) (endFor xs) (take 348 f) ++ extenderFor xs) ≡ firstPlace
+  front-long : length (head ++ extenderFor f xs) ≡ firstPlace
   front-long =
-      let x = length-extender xs in
+      let x = length-extender f xs in
       let l = length-top (kindOf f) (orderOf f) (endFor xs) f long in
-      length-append (headFor (kindOf f) (orderOf f) (endFor xs) (take 348 f)) (extenderFor xs) ∙ omega arith
+      length-append head (extenderFor f xs) ∙ omega arith
 
-  extender-at : bytesAt 348 4 g ≡ extenderFor xs
+  extender-at : bytesAt 348 4 g ≡ extenderFor f xs
   unfolding freshFile
   extender-at =
-      let h = headFor (kindOf f) (orderOf f) (endFor xs) (take 348 f) in
       let n = length-fresh f xs long in
       let l = length-top (kindOf f) (orderOf f) (endFor xs) f long in
       bytesAt-part 348 4 g (omega arith)
-      ∙ rw (drop-at h (extenderFor xs ++ (joined xs ++ tailOf f)) 348 l) (take-at (extenderFor xs) (joined xs ++ tailOf f) 4 (length-extender xs))
+      ∙ rw (drop-at head (extenderFor f xs ++ (joined xs ++ tailOf f)) 348 l) (take-at (extenderFor f xs) (joined xs ++ tailOf f) 4 (length-extender f xs))
 
-  none-is : hasNone g ≡ sameBytes (extenderFor xs) noExtensions
-  unfolding hasNone
-  none-is = ap (λ (b : List ℕ). sameBytes b noExtensions) extender-at
-
-  some-is : hasExtensions g ≡ sameBytes (extenderFor xs) someExtensions
+  some-is : hasExtensions g ≡ sameBytes (extenderFor f xs) someExtensions
   unfolding hasExtensions
   some-is = ap (λ (b : List ℕ). sameBytes b someExtensions) extender-at
+
+  none-is : hasNone g ≡ sameBytes (extenderFor f xs) noExtensions
+  unfolding hasNone
+  none-is = ap (λ (b : List ℕ). sameBytes b noExtensions) extender-at
 
   either-extender : (hasNone g || hasExtensions g) ≡ true
   either-extender = rw (none-is, some-is) (by xs)
     where
-      by : (ys : List (List ℕ)) → (sameBytes (extenderFor ys) noExtensions || sameBytes (extenderFor ys) someExtensions) ≡ true
+      by : (ys : List (List ℕ)) → (sameBytes (extenderFor f ys) noExtensions || sameBytes (extenderFor f ys) someExtensions) ≡ true
       by [] = refl
       by (y ∷ ys) = refl
 
-  new-long : firstPlace ≤ length g
+  pub new-long : firstPlace ≤ length g
   new-long = let n = length-fresh f xs long in omega arith
 
   -- ---- the rules, and the list
 
   module _ (e : Ends (endFor xs)) where
     -- in a single file the image moves to the new region's end; it has the bytes that it had
-    pub image-moved : kindOf f ≡ Single → imageOf (shapeOf g) .offset ≡ endFor xs
+    pub image-is : imageOf (shapeOf g) ≡ record { offset = anewIn (kindOf f) (endFor xs) (imageOf (shapeOf f) .offset); bytes = imageOf (shapeOf f) .bytes }
     unfolding shapeIn
-    image-moved k =
-        ap (λ (s : Shape). imageOf s .offset) shape-is
-        ∙ ap (λ (x : Kind). wholeOf (offsetFor x (endFor xs) (u32At (orderOf f) f 108))) k ∙ back-value (endFor xs) (e .units) (e .most)
+    image-is = ap imageOf shape-is ∙ (λ i. record { offset = by (kindOf f) i; bytes = imageOf (shapeOf f) .bytes })
+      where
+        by : (k : Kind) → wholeOf (anewIn k (offsetBits (endFor xs)) (u32At (orderOf f) f 108)) ≡ anewIn k (endFor xs) (wholeOf (u32At (orderOf f) f 108))
+        by Single = back-value (endFor xs) (e .units) (e .most)
+        by Pair = refl
 
-    pub image-kept : kindOf f ≡ Pair → imageOf (shapeOf g) .offset ≡ imageOf (shapeOf f) .offset
-    unfolding shapeIn
-    image-kept k =
-        ap (λ (s : Shape). imageOf s .offset) shape-is ∙ ap (λ (x : Kind). wholeOf (offsetFor x (endFor xs) (u32At (orderOf f) f 108))) k
+    image-moved : kindOf f ≡ Single → imageOf (shapeOf g) .offset ≡ endFor xs
+    image-moved k = ap (λ (i : Image). i .offset) image-is ∙ ap (λ (x : Kind). anewIn x (endFor xs) (imageOf (shapeOf f) .offset)) k
 
-    pub image-bytes : imageOf (shapeOf g) .bytes ≡ imageOf (shapeOf f) .bytes
-    image-bytes = ap (λ (s : Shape). imageOf s .bytes) shape-is
+    image-bytes : imageOf (shapeOf g) .bytes ≡ imageOf (shapeOf f) .bytes
+    image-bytes = ap (λ (i : Image). i .bytes) image-is
 
-    pub end-is : endOf g ≡ endFor xs
+    end-is : endOf g ≡ endFor xs
     unfolding endOf
     end-is = ap (λ (k : Kind). regionEnd k (imageOf (shapeOf g)) (length g)) (same-kind f xs long) ∙ by (kindOf f) refl
       where
@@ -184,62 +183,82 @@ module _ (f : List ℕ) (xs : List (List ℕ)) (long : 348 ≤ length f) where
         by Pair k = length-fresh f xs long ∙ rw (tail-pair f k) (omega arith)
 
     end-pair : kindOf f ≡ Pair → length g ≤ offsetLimit
-    end-pair k = let n : length g ≡ endFor xs + 0 = length-fresh f xs long ∙ rw (tail-pair f k) in let m = e .most in omega arith
+    end-pair k =
+        let n : length g ≡ endFor xs + 0 = length-fresh f xs long ∙ rw (tail-pair f k) in
+        let m = e .most in
+        omega arith
 
-    image-fits : cutShort (kindOf f) (length f) (imageOf (shapeOf f)) ≡ false → kindOf g ≡ Single → imageOf (shapeOf g) .offset + imageOf (shapeOf g) .bytes ≤ length g
+    image-fits : cutShort (kindOf f) (length f) (imageOf (shapeOf f)) ≡ false → kindOf g ≡ Single
+        → imageOf (shapeOf g) .offset + imageOf (shapeOf g) .bytes ≤ length g
     image-fits r k =
         let q : kindOf f ≡ Single = sym (same-kind f xs long) ∙ k in
-        let t : length (tailOf f) ≡ length f - imageOf (shapeOf f) .offset = rw (tail-single f q) (length-drop (imageOf (shapeOf f) .offset) f) in
-        let o = long-by (kindOf f) (length f) (imageOf (shapeOf f)) r q in
-        omega (arith, length-fresh f xs long, image-moved q, image-bytes, t, o)
+        let o = imageOf (shapeOf f) .offset in
+        let t : length (tailOf f) ≡ length f - o = rw (tail-single f q) (length-drop o f) in
+        let b = long-by (kindOf f) (length f) (imageOf (shapeOf f)) r q in
+        omega (arith, length-fresh f xs long, image-moved q, image-bytes, t, b)
 
-    clear-new : Clear (fileRows f) → Clear (fileRows g)
-    clear-new (one r1 (one r2 (one r3 (one r4 (one r5 (one r6 (one r7 (one r8 (one r9 (one r10 (one r11 (one r12 none)))))))))))) =
-        let e1 : ltb (length g) 348 ≡ false = le-ltb (length g) 348 (let n = new-long in omega arith) in
-        let e2 : not (holdsIn Little g || holdsIn Big g) ≡ false = rw (same-holds f xs long Little, same-holds f xs long Big) r2 in
-        let e3 : not (isNumber (i32At (orderOf g) g 0) 348) ≡ false = rw (same-order f xs long, same-u32 f xs long (orderOf f) 0 (before (omega arith))) r3 in
-        let e4 : not (hasMagic Single g || hasMagic Pair g) ≡ false = rw (same-magic f xs long Single, same-magic f xs long Pair) r4 in
-        let fields : Clear (fieldRows (shapeOf f) (length f)) = one r5 (one r6 (one r7 (one r8 (one r9 (one r10 none))))) in
-        let same = clear-fields (kindOf f) (endFor xs) (length f) (length g) (shapeOf f) e shape-kind end-pair fields in
-        let e11 : cutShort (kindOf g) (length g) (imageOf (shapeOf g)) ≡ false = short-by (kindOf g) (length g) (imageOf (shapeOf g)) (image-fits r11) in
-        let e12 : (cutExtender (kindOf g) (length g) || not (hasNone g || hasExtensions g)) ≡ false = rw (extender-by (kindOf g) (length g) new-long, either-extender) in
-        clear-append (one e1 (one e2 (one e3 (one e4 none))))
-        (clear-append (subst (λ (s : Shape). Clear (fieldRows s (length g))) (sym shape-is) same) (one e11 (one e12 none)))
+    rules-new : Rules f → Rules g
+    unfolding shapeIn
+    rules-new r =
+        let l = new-long in
+        record {
+          long = omega arith;
+          ordered = rw (same-order f xs long, same-holds f xs long (orderOf f)) (r .ordered);
+          size = rw (same-order f xs long) (ap (λ (w : List ℕ). toZ w32 (getD w 0 0)) (agrees f xs long (orderOf f) .words 0 1 refl) ∙ r .size);
+          magic = rw (same-kind f xs long, same-magic f xs long (kindOf f)) (r .magic);
+          fields = rw shape-is (fields-new (endFor xs) (length f) (length g) (shapeOf f) e end-pair (r .fields));
+          whole = short-by (kindOf g) (length g) (imageOf (shapeOf g)) (image-fits (r .whole));
+          extended = extender-by (kindOf g) (length g) l;
+          extender = either-extender;
+        }
 
-    module _ (ws : Wholes (orderOf f) xs) (few : length xs ≤ extensionLimit) where
-      placed : 0 < length xs → extensionsIn (orderOf g) (endOf g) g ≡ listed (spansFrom (orderOf f) firstPlace xs)
+    module _ (ws : AllComplete (orderOf f) xs) (few : length xs ≤ extensionLimit) where
+      abbrev ss : List Span
+      ss = spansFrom (orderOf f) firstPlace xs
+
+      placed : 0 < length xs → extensionsIn (orderOf g) (endOf g) g ≡ listed ss
       placed some =
           (λ i. extensionsIn (same-order f xs long i) (end-is i) (front-of i))
-          ∙ placed-listed (orderOf f) (headFor (kindOf f) (orderOf f) (endFor xs) (take 348 f) ++ extenderFor xs) (tailOf f) front-long ws some few
+          ∙ placed-listed (orderOf f) (head ++ extenderFor f xs) (tailOf f) front-long ws some few
 
-      walked : extensionsOf (layoutOf g) g ≡ listed (spansFrom (orderOf f) firstPlace xs)
+      walked : extensionsOf (layoutOf g) g ≡ listed ss
       unfolding endOf spansFrom
       walked = by xs refl
         where
-          by : (ys : List (List ℕ)) → xs ≡ ys → extensionsOf (layoutOf g) g ≡ listed (spansFrom (orderOf f) firstPlace xs)
+          by : (ys : List (List ℕ)) → xs ≡ ys → extensionsOf (layoutOf g) g ≡ listed ss
           by [] q =
-              let t : hasExtensions g ≡ false = some-is ∙ ap (λ (zs : List (List ℕ)). sameBytes (extenderFor zs) someExtensions) q in
+              let t : hasExtensions g ≡ false = some-is ∙ ap (λ (zs : List (List ℕ)). sameBytes (extenderFor f zs) someExtensions) q in
               rw t (ap (λ (zs : List (List ℕ)). listed (spansFrom (orderOf f) firstPlace zs)) (sym q))
           by (y ∷ ys) q =
-              let t : hasExtensions g ≡ true = some-is ∙ ap (λ (zs : List (List ℕ)). sameBytes (extenderFor zs) someExtensions) q in
+              let t : hasExtensions g ≡ true = some-is ∙ ap (λ (zs : List (List ℕ)). sameBytes (extenderFor f zs) someExtensions) q in
               let n : length xs ≡ suc (length ys) = ap length q in
               rw t (placed (omega arith))
 
-      pub judged-new : Clear (fileRows f) → judgement g ≡ listed (spansFrom (orderOf f) firstPlace xs)
-      unfolding judgement
-      judged-new c = rw (clear-accepted (clear-new c)) walked
+      -- it is accepted,
+      pub new-file : Rules f → AcceptedFile g ss
+      new-file r = judged-file g ss (file-judged g ss (rules-new r) walked)
 
-      rest-is : restOf g (endOf g) firstPlace ≡ joined xs
-      rest-is =
-          let h = headFor (kindOf f) (orderOf f) (endFor xs) (take 348 f) ++ extenderFor xs in
+      region-is : regionOf g ≡ joined xs
+      region-is =
+          let h = head ++ extenderFor f xs in
           let r = joined xs ++ tailOf f in
           let n : endFor xs - firstPlace ≡ length (joined xs) = omega arith in
-          (λ i. restOf (front-of i) (end-is i) firstPlace)
+          (λ i. drop firstPlace (take (end-is i) (front-of i)))
           ∙ rw (drop-take firstPlace (endFor xs) (h ++ r), drop-at h r firstPlace front-long, n) (take-at (joined xs) (tailOf f) (length (joined xs)) refl)
 
-      pub list-new : Clear (fileRows f) → extensionList g ≡ xs
+      -- its extensions are the list,
+      pub list-new : Rules f → extensionList g ≡ xs
       unfolding extensionList
-      list-new c = rw (judged-new c, rest-is) (pieces-joined firstPlace ws)
+      list-new r = rw (new-file r .judged, region-is) (pieces-joined firstPlace ws)
+
+      -- and its reading is the old one after the edit
+      pub reads-new : (old : List Span) → AcceptedFile f old → readingOf g ≡ readAfter (readingOf f) xs
+      unfolding headerOf shapeIn
+      reads-new old a =
+          let n : length ss ≡ length xs = length-spansFrom (orderOf f) firstPlace xs in
+          file-reads g ss (new-file (a .rules))
+          ∙ (λ i. record { verdict = Accepted; header = header-is f xs long (n i) (spansOf ss) i; image = image-is i })
+          ∙ sym (ap (λ (r : Reading). readAfter r xs) (file-reads f old a))
 
     pub tail-new : tailOf g ≡ tailOf f
     unfolding tailOf
@@ -247,9 +266,10 @@ module _ (f : List ℕ) (xs : List (List ℕ)) (long : 348 ≤ length f) where
       where
         by : (k : Kind) → kindOf f ≡ k → tailBy k (imageOf (shapeOf g) .offset) g ≡ tailBy k (imageOf (shapeOf f) .offset) f
         by Single k =
-            let h = headFor (kindOf f) (orderOf f) (endFor xs) (take 348 f) ++ extenderFor xs in
-            let t = tail-single f k in
+            let h = head ++ extenderFor f xs in
             let n : length (h ++ joined xs) ≡ endFor xs = length-append h (joined xs) ∙ rw front-long in
             ap (λ (o : ℕ). drop o g) (image-moved k)
-            ∙ ap (drop (endFor xs)) (front-of ∙ sym (append-assoc h (joined xs) (tailOf f))) ∙ drop-at (h ++ joined xs) (tailOf f) (endFor xs) n ∙ t
+            ∙ ap (drop (endFor xs)) (front-of ∙ sym (append-assoc h (joined xs) (tailOf f)))
+            ∙ drop-at (h ++ joined xs) (tailOf f) (endFor xs) n
+            ∙ tail-single f k
         by Pair k = refl

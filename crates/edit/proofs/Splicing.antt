@@ -1,39 +1,32 @@
 -- The splice: what the moves and stores of an edit leave is the settled buffer with the fresh file.
-use Prim.Native.Nat.{ℕ, _+_, _-_, _≤_, _<_, max}
+use Prim.Native.Nat.{ℕ, _+_, _-_, _≤_, max}
 use mathlib.Core.Path.{_≡_, refl, sym, ap, _∙_}
-use mathlib.Core.Bool.{false}
-use mathlib.Core.List.{List, _∷_, _++_, append-assoc}
+use mathlib.Core.List.{List, _++_, append-assoc}
 use native.Mathlib.Omega.{arith}
-use borrow.Author.Tests.{lt-ltb}
 use lib.IntN.{ℤ}
 use lib.ListN.{length, take, drop, replicate, length-append, length-drop, take-append-drop}
-use lib.Seq.{length-take-le, take-at, drop-at, take-take, take-add, take-append-le, drop-append-le, take-append-add, drop-append-add}
+use lib.Seq.{length-take-le, take-take, take-add, take-append-le, drop-append-le, take-append-add, drop-append-add}
 use mir.Syntax.{w32}
 use mir.Val.{SFits}
-use Rattle.field.specs.declared.Order.{Order}
-use Rattle.field.specs.Numbers.{bytesOf, joined}
-use Rattle.field.proofs.Stores.{length-bytesOf}
-use Rattle.offset.specs.Offset.{offsetBits}
+use Rattle.field.specs.Numbers.{joined}
+use Rattle.number.proofs.Lists.{drop-take}
+use Rattle.offset.specs.Offset.{offsetLimit}
 use Rattle.extension.specs.Walk.{firstPlace}
-use Rattle.extension.specs.Pieces.{Wholes, none, one}
-use Rattle.header.specs.declared.Kind.{Kind}
-use Rattle.header.specs.declared.Kind.the-variants.{Single, Pair}
-use Rattle.reader.specs.File.{orderOf, kindOf}
+use Rattle.layout.specs.File.{orderOf, kindOf}
 use Rattle.buffer.specs.Put.{put}
-use Rattle.buffer.specs.Settled.{replaced, settled}
-use Rattle.buffer.proofs.Laws.{drop-take, length-put, put-left, put-append}
-use Rattle.buffer.proofs.Settled.{settled-put, settle}
+use Rattle.buffer.specs.Settled.{settled}
+use Rattle.buffer.proofs.Laws.{length-put, put-left}
+use Rattle.buffer.proofs.Settled.{replaced, settled-put, settle}
 use Rattle.edit_plan.specs.declared.Change.{Change}
-use Rattle.edit_plan.specs.declared.Change.the-variants.{Append, Replace, Remove}
 use Rattle.edit_plan.specs.declared.Plan.{Plan}
-use Rattle.edit_plan.specs.Fresh.{endOf, extensionList, tailOf, exchange, outFrom, outTo, broughtIn, editedList, extenderFor, endFor, headFor, freshFile, freshOf}
-use Rattle.edit_plan.specs.Refusals.{offersNegative}
-use Rattle.edit_plan.specs.Planned.{newSize, bytesBefore, extenderBytes, planOf}
-use Rattle.edit_plan.proofs.Exchanging.{joined-some, wholes-exchange, before-all, before-later, joined-exchange}
-use Rattle.edit.proofs.Storing.{stored-whole}
-use Rattle.edit_plan.proofs.Cutting.{opens}
-use Rattle.edit_plan.proofs.Planning.{length-extender, length-new, length-fresh, outBytes, places, out-inside, end-new, whole-new}
-use Rattle.edit_plan.proofs.Deciding.{Allowed}
+use Rattle.edit_plan.specs.Fresh.{extensionList, tailOf, exchange, outFrom, outTo, broughtIn, editedList, extenderFor, endFor, headFor}
+use Rattle.edit_plan.specs.Fresh.{freshFile, freshOf}
+use Rattle.edit_plan.specs.Planned.{bytesBefore, bytesOut, planOf}
+use Rattle.edit_plan.proofs.Exchanging.{before-all, before-later, joined-exchange}
+use Rattle.edit_plan.proofs.Planning.{countOf, regionTo, length-extender, length-new, length-fresh, places, out-inside, end-new, whole-new}
+use Rattle.edit_plan.proofs.Deciding.{Allowed, edited-complete}
+use Rattle.edit_store.specs.Stores.{extenderBytes}
+use Rattle.edit_store.proofs.Storing.{extender-is, extended, headed, headed-settled}
 
 -- ---- the fresh file's bytes
 
@@ -68,8 +61,8 @@ settled-longer l len g h =
 pub record Carries (f : List ℕ) (change : Change) (code : ℤ) (p : List ℕ) (x : Plan) : Type 0 where
   pub order-is : x .order ≡ orderOf f
   pub kind-is : x .kind ≡ kindOf f
-  pub at-is : x .at ≡ firstPlace + bytesBefore f (outFrom change (length (extensionList f)))
-  pub old-is : x .old ≡ outBytes f change
+  pub at-is : x .at ≡ firstPlace + bytesBefore f (outFrom change (countOf f))
+  pub old-is : x .old ≡ bytesOut f change
   pub new-is : x .new ≡ length (joined (broughtIn (orderOf f) change code p))
   pub end-is : x .end ≡ endFor (editedList f change code p)
 
@@ -92,7 +85,7 @@ pub record Sizes (l : List ℕ) (len : ℕ) (change : Change) (code : ℤ) (p : 
   pub inside : max len firstPlace ≤ length l
   pub room : max len firstPlace + x .new ≤ length l + x .old
   pub new-inside : x .at + x .new ≤ x .end
-  pub end-limit : x .end ≤ 134217728
+  pub end-limit : x .end ≤ offsetLimit
   pub long : firstPlace ≤ length (freshOf (take len l) change code p)
   pub result : length (freshOf (take len l) change code p) ≡ max len firstPlace - x .old + x .new
 
@@ -135,17 +128,18 @@ module _ (l : List ℕ) (len : ℕ) (change : Change) (code : ℤ) (p : List ℕ
   sizes =
       let k = a .known in
       let lf = file-length in
-      let E = max (endOf f) firstPlace in
+      let E = regionTo f in
       let W = max len firstPlace in
       let fresh = length (freshOf f change code p) in
       let o : x .at + x .old ≤ E = rw (v .at-is, v .old-is) (out-inside f change (k .present) (k .cut)) in
-      let e : x .end ≡ E - x .old + x .new = rw (v .end-is, v .old-is, v .new-is, length-new (orderOf f) change code p) (end-new f change (k .present) (k .cut) code p) in
+      let n = length-new (orderOf f) change code p in
+      let e : x .end ≡ E - x .old + x .new = rw (v .end-is, v .old-is, v .new-is, n) (end-new f change (k .present) (k .cut) code p) in
       let w : fresh ≡ W - x .old + x .new =
-      rw (v .old-is, v .new-is, length-new (orderOf f) change code p) (rw lf at (whole-new f change (k .present) (k .cut) code p (k .long))) in
+      rw (v .old-is, v .new-is, n) (rw lf at (whole-new f change (k .present) (k .cut) code p (k .long))) in
       let g : fresh ≡ x .end + length (tailOf f) = rw (v .end-is) (length-fresh f (editedList f change code p) (k .long)) in
       let c : W ≡ firstPlace + length (joined xs) + length (tailOf f) = rw lf at (k .cut .whole) in
-      let s = sums (x .at) (x .old) (x .new) (x .end) E W (length (joined xs)) (length (tailOf f)) fresh (length l) len (omega (arith, v .at-is)) o (k .cut .base) c e w g (a .fits)
-      hl (omega arith) in
+      let s = sums (x .at) (x .old) (x .new) (x .end) E W (length (joined xs)) (length (tailOf f)) fresh (length l) len
+      (omega (arith, v .at-is)) o (k .cut .base) c e w g (a .fits) hl (omega arith) in
       record {
         out = s .out;
         inside = s .inside;
@@ -164,7 +158,10 @@ module _ (l : List ℕ) (len : ℕ) (change : Change) (code : ℤ) (p : List ℕ
   buffer-long = let s : max len firstPlace ≤ length l = sizes .inside in omega arith
 
   front-is : take firstPlace l ≡ front
-  front-is = let k = a .known .long in let lf = file-length in take-add 348 4 l ∙ rw (take-take 348 len l (omega arith))
+  front-is =
+      let k = a .known .long in
+      let lf = file-length in
+      take-add 348 4 l ∙ rw (take-take 348 len l (omega arith))
 
   front-length : length front ≡ firstPlace
   front-length = sym (ap length front-is) ∙ length-take-le firstPlace l buffer-long
@@ -181,29 +178,37 @@ module _ (l : List ℕ) (len : ℕ) (change : Change) (code : ℤ) (p : List ℕ
 
   list-is : replaced (take (max len firstPlace) l) (x .at) (x .old) (joined ys) ≡ front ++ (joined (editedList f change code p) ++ tailOf f)
   unfolding editedList
-  list-is = rw file-is (exchanged front xs ys (tailOf f) i j front-length (places change (length xs) (a .known .present) .0) (x .at) (x .old) (v .at-is) (v .old-is))
+  list-is =
+      rw file-is
+      (exchanged front xs ys (tailOf f) i j front-length (places change (length xs) (a .known .present) .0) (x .at) (x .old) (v .at-is) (v .old-is))
 
   module _ (fits : SFits w32 code) where
-    extender-same : extenderBytes (x .end) ≡ extenderFor (editedList f change code p)
-    extender-same = rw (v .end-is) (extender-is (edited-whole f (length l) change code p fits a))
+    abbrev zs : List (List ℕ)
+    zs = editedList f change code p
 
-    fresh-is : headFor (x .kind) (x .order) (x .end) (put (replaced (take (max len firstPlace) l) (x .at) (x .old) (joined ys)) 348 (extenderBytes (x .end)))
+    extender-same : extenderBytes (x .end) ≡ extenderFor f zs
+    extender-same = rw (v .end-is) (extender-is f (edited-complete f (length l) change code p fits a))
+
+    fresh-is : headFor (x .kind) (x .order) (x .end)
+        (put (replaced (take (max len firstPlace) l) (x .at) (x .old) (joined ys)) 348 (extenderBytes (x .end)))
         ≡ freshOf f change code p
     unfolding freshFile
     fresh-is =
-        let e = extenderFor (editedList f change code p) in
-        let r = joined (editedList f change code p) ++ tailOf f in
+        let e = extenderFor f zs in
+        let r = joined zs ++ tailOf f in
         let k = a .known .long in
         let lt : length (take 348 f) ≡ 348 = length-take-le 348 f k in
-        let lx : length (take 4 (drop 348 l)) ≡ 4 = let s = buffer-long in length-take-le 4 (drop 348 l) (rw length-drop (omega arith)) in
-        rw (list-is, extender-same, extended (take 348 f) (take 4 (drop 348 l)) e r lt lx (length-extender (editedList f change code p)), v .kind-is, v .order-is, v .end-is)
-        (headed (kindOf f) (orderOf f) (endFor (editedList f change code p)) (take 348 f) (e ++ r) (omega arith))
+        let s = buffer-long in
+        let lx : length (take 4 (drop 348 l)) ≡ 4 = length-take-le 4 (drop 348 l) (rw length-drop (omega arith)) in
+        let t = extended (take 348 f) (take 4 (drop 348 l)) e r lt lx (length-extender f zs) in
+        rw (list-is, extender-same, t, v .kind-is, v .order-is, v .end-is)
+        (headed (kindOf f) (orderOf f) (endFor zs) (take 348 f) (e ++ r) (omega arith))
 
     -- what the four steps leave
     pub spliced : (w : ℕ) (b₁ b₂ b₃ b₄ : List ℕ) → w ≡ max len firstPlace
         → b₁ ≡ put l (x .at + x .new) (take (w - (x .at + x .old)) (drop (x .at + x .old) l) ++ replicate (x .old - x .new) 0)
-        → b₂ ≡ put b₁ (x .at) (joined (broughtIn (x .order) change code p)) → b₃ ≡ put b₂ 348 (extenderBytes (x .end)) → b₄ ≡ headFor (x .kind) (x .order) (x .end) b₃
-        → b₄ ≡ settled l len (freshOf f change code p)
+        → b₂ ≡ put b₁ (x .at) (joined (broughtIn (x .order) change code p)) → b₃ ≡ put b₂ 348 (extenderBytes (x .end))
+        → b₄ ≡ headFor (x .kind) (x .order) (x .end) b₃ → b₄ ≡ settled l len (freshOf f change code p)
     spliced w b₁ b₂ b₃ b₄ ew e₁ e₂ e₃ e₄ =
         let s = sizes in
         let W = max len firstPlace in
@@ -216,11 +221,12 @@ module _ (l : List ℕ) (len : ℕ) (change : Change) (code : ℤ) (p : List ℕ
         let h₂ : b₂ ≡ settled l W g =
         f₂ ∙ put-left l (x .at + x .new) moved (joined ys) b₁ (x .at) f₁ (omega arith) (omega arith)
         ∙ rw z (settle l W (x .at) (x .old) (joined ys) (s .out) (s .inside)) in
-        let le = length-extender (editedList f change code p) in
-        let lx : length (extenderBytes (x .end)) ≡ 4 = rw extender-same le in
+        let le = length-extender f zs in
+        let e : List ℕ = extenderBytes (x .end) in
+        let lx : length e ≡ 4 = rw extender-same le in
         let lg : firstPlace ≤ length g = rw list-is (rw (length-append, front-length) (omega arith)) in
-        let lp : length (put g 348 (extenderBytes (x .end))) ≡ length g = length-put g 348 (extenderBytes (x .end)) (omega arith) in
-        let h₃ : b₃ ≡ settled l W (put g 348 (extenderBytes (x .end))) = e₃ ∙ rw (h₂, settled-put l W g 348 (extenderBytes (x .end)) (omega arith)) in
+        let lp : length (put g 348 e) ≡ length g = length-put g 348 e (omega arith) in
+        let h₃ : b₃ ≡ settled l W (put g 348 e) = e₃ ∙ rw (h₂, settled-put l W g 348 e (omega arith)) in
         e₄
-        ∙ rw (h₃, headed-settled (x .kind) (x .order) (x .end) l W (put g 348 (extenderBytes (x .end))) (omega arith), fresh-is)
+        ∙ rw (h₃, headed-settled (x .kind) (x .order) (x .end) l W (put g 348 e) (omega arith), fresh-is)
         (settled-longer l len (freshOf f change code p) (s .long))

@@ -7,36 +7,31 @@ use lib.IntN.{ℤ}
 use lib.ListN.{length, take}
 use Rattle.refusal.specs.declared.Refusal.{Refusal}
 use Rattle.refusal.specs.declared.Verdict.{Verdict}
-use Rattle.refusal.specs.declared.Verdict.the-variants.{Accepted, Refused}
-use Rattle.refusal.specs.Table.{row, verdict}
+use Rattle.refusal.specs.Table.{row, verdict, decided, then}
 use Rattle.buffer.specs.Settled.{settled}
 use Rattle.edit_plan.specs.declared.Change.{Change}
+use Rattle.edit_plan.specs.Fresh.{freshOf}
+use Rattle.edit_plan.specs.Refusals.{changeVerdict}
 use Rattle.edit.specs.declared.Edited.{Edited}
 use Rattle.edit.specs.declared.Edited.the-variants.{Done, Denied}
-use Rattle.edit_plan.specs.Fresh.{freshOf}
-use Rattle.edit_plan.specs.Refusals.{onward, changeVerdict}
 
 -- "24 comes first": "stated file length above the buffer's length"
 abbrev pub editVerdict : List ℕ → ℕ → Change → ℤ → List ℕ → Verdict
 editVerdict l len change code p =
-    onward (verdict (row 24 (ltb (length l) len) 0 ∷ [])) (changeVerdict (take len l) (length l) change code p)
+    then (verdict (row 24 (ltb (length l) len) 0 ∷ [])) (changeVerdict (take len l) (length l) change code p)
 
 -- "A refused edit has no fresh file."
 pub data Outcome : Type 0 where
   fresh : List ℕ → Outcome
   refused : Refusal → Outcome
 
-abbrev pub outcomeBy : Verdict → List ℕ → Outcome
-outcomeBy Accepted g = fresh g
-outcomeBy (Refused r) g = refused r
-
 unfoldable pub outcomeOf : List ℕ → ℕ → Change → ℤ → List ℕ → Outcome
-outcomeOf l len change code p = outcomeBy (editVerdict l len change code p) (freshOf (take len l) change code p)
+outcomeOf l len change code p = decided (editVerdict l len change code p) (fresh (freshOf (take len l) change code p)) refused
 
 -- "An edit answers the new length."
-abbrev pub answerOf : Outcome → Edited
-answerOf (fresh g) = Done (length g)
-answerOf (refused r) = Denied r
+abbrev pub editAnswer : Outcome → Edited
+editAnswer (fresh g) = Done (record { length = length g })
+editAnswer (refused r) = Denied r
 
 -- "The buffer afterwards is the fresh file, then zeros up to the old length where that is longer, then its old content"; on a refusal
 -- "every lent buffer keeps its bytes".

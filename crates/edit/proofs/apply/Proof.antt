@@ -5,23 +5,34 @@ use denote.Ref.{now}
 use lib.ListN.{length, take}
 use mir.Syntax.{w32}
 use mir.ValLaws.{toZ-ofZ}
-use Rattle.edit.specs.declared.Edited.the-variants.{Done}
-use Rattle.edit.specs.Outcome.{answerOf, bufferAfter}
+use Rattle.edit_plan.specs.declared.Planned.{Planned}
 use Rattle.edit_plan.specs.Planned.{plannedOf}
+use Rattle.edit.specs.declared.Edited.the-variants.{Done}
+use Rattle.edit.specs.Outcome.{editAnswer, bufferAfter}
 use Rattle.edit.proofs.Outcomes.{outcome-24, outcome-stop, outcome-go}
 use borrow.Author.Needs.{needs}
 use Rattle.edit.proofs.apply.Statement.{statement}
 use Rattle.edit.proofs.apply.Tie as tie
 
+abbrev start-at : tie.After-plan-edit → tie.Start
+start-at c = c .before .before .before .before .before .before
+
 -- what the plan is of: the file in the first len bytes
-planned-at : (c : tie.After-plan-edit)
-    → c .plan-edit .result ≡ plannedOf (take (c .before .before .before .before .before .before .args .len) (now (c .before .before .before .before .before .before .args .buf))) (length (now (c .before .before .before .before .before .before .args .buf))) (c .before .before .before .before .before .before .args .change) (c .before .before .before .before .before .before .args .code) (now (c .before .before .before .before .before .before .args .payload))
-planned-at c = rw (toZ-ofZ w32 (c .before .before .before .before .before .before .args .code) (c .before .before .before .before .before .before .fits .code), sub-zero) at (c .plan-edit .ensures)
+abbrev planned-of : tie.Start → Planned
+planned-of s =
+    let a = s .args in
+    plannedOf (take (a .len) (now (a .buf))) (length (now (a .buf))) (a .change) (a .code) (now (a .payload))
+
+planned-at : (c : tie.After-plan-edit) → c .plan-edit .result ≡ planned-of (start-at c)
+planned-at c =
+    let s = start-at c in
+    rw (toZ-ofZ w32 (s .args .code) (s .fits .code), sub-zero) at (c .plan-edit .ensures)
 
 returns : tie.Need-returns
 returns c =
-    let e = outcome-24 (now (c .before .before .before .args .buf)) (c .before .before .before .args .len) (c .before .before .before .args .change) (c .before .before .before .args .code) (now (c .before .before .before .args .payload)) (c .if1 .taken) in
-    (ap answerOf (sym e), ap (bufferAfter (now (c .before .before .before .args .buf)) (c .before .before .before .args .len)) (sym e))
+    let a = c .before .before .before .args in
+    let e = outcome-24 (now (a .buf)) (a .len) (a .change) (a .code) (now (a .payload)) (c .if1 .taken) in
+    (ap editAnswer (sym e), ap (bufferAfter (now (a .buf)) (a .len)) (sym e))
 
 sub-plan-edit : tie.Need-sub-plan-edit
 sub-plan-edit c = search needs
@@ -43,26 +54,36 @@ enum-known-planned-2 c = search needs
 
 splice-requires : tie.Need-splice-requires
 splice-requires c κs =
-    let s = c .before .before .before .before .before .before .before .before .before .before in
-    rw (toZ-ofZ w32 (s .args .code) (s .fits .code)) (c .before .before .before .before .before .before .before .if1 .left, sym (planned-at (c .before .before .before .before)) ∙ c .before .before .planned2 .given .1)
+    let p = c .before .before .before .before in
+    let s = start-at p in
+    rw (toZ-ofZ w32 (s .args .code) (s .fits .code))
+    (p .before .before .before .if1 .left, sym (planned-at p) ∙ c .before .before .planned2 .given .1)
 
 same-length : tie.Need-same-length
 same-length c = search needs
 
 returns-2 : tie.Need-returns-2
 returns-2 c =
-    let e = outcome-stop (now (c .before .before .before .before .before .before .before .before .before .args .buf)) (c .before .before .before .before .before .before .before .before .before .args .len) (c .before .before .before .before .before .before .before .before .before .args .change) (c .before .before .before .before .before .before .before .before .before .args .code) (now (c .before .before .before .before .before .before .before .before .before .args .payload)) (c .before .before .before .before .before .before .if1 .left) (c .before .planned .given .0 .0) (sym (planned-at (c .before .before .before)) ∙ c .before .planned .given .1) in
-    (ap answerOf (sym e), ap (bufferAfter (now (c .before .before .before .before .before .before .before .before .before .args .buf)) (c .before .before .before .before .before .before .before .before .before .args .len)) (sym e))
+    let p = c .before .before .before in
+    let a = start-at p .args in
+    let t = c .before .planned .given in
+    let e = outcome-stop (now (a .buf)) (a .len) (a .change) (a .code) (now (a .payload)) (p .before .before .before .if1 .left) (t .0 .0)
+    (sym (planned-at p) ∙ t .1) in
+    (ap editAnswer (sym e), ap (bufferAfter (now (a .buf)) (a .len)) (sym e))
 
 same-length-2 : tie.Need-same-length-2
 same-length-2 c = search needs
 
 returns-3 : tie.Need-returns-3
 returns-3 c =
-    let s = c .before .before .before .before .before .before .before .before .before .before .before .before .before in
-    let e = outcome-go (now (c .before .before .before .before .before .before .before .before .before .before .before .before .before .args .buf)) (c .before .before .before .before .before .before .before .before .before .before .before .before .before .args .len) (c .before .before .before .before .before .before .before .before .before .before .before .before .before .args .change) (c .before .before .before .before .before .before .before .before .before .before .before .before .before .args .code) (now (c .before .before .before .before .before .before .before .before .before .before .before .before .before .args .payload)) (c .before .before .before .before .before .before .before .before .before .before .if1 .left) (c .before .before .before .before .before .planned2 .given .0 .0) (sym (planned-at (c .before .before .before .before .before .before .before)) ∙ c .before .before .before .before .before .planned2 .given .1) in
-    let r = rw (toZ-ofZ w32 (s .args .code) (s .fits .code)) at (c .before .before .splice .ensures) in
-    (ap Done (r .0) ∙ ap answerOf (sym e), r .1 ∙ ap (bufferAfter (now (s .args .buf)) (s .args .len)) (sym e))
+    let p = c .before .before .before .before .before .before .before in
+    let s = start-at p in
+    let a = s .args in
+    let t = c .before .before .before .before .before .planned2 .given in
+    let e = outcome-go (now (a .buf)) (a .len) (a .change) (a .code) (now (a .payload)) (p .before .before .before .if1 .left) (t .0 .0)
+    (sym (planned-at p) ∙ t .1) in
+    let r = rw (toZ-ofZ w32 (a .code) (s .fits .code)) at (c .before .before .splice .ensures) in
+    ((λ i. Done (record { length = r .0 i })) ∙ ap editAnswer (sym e), r .1 ∙ ap (bufferAfter (now (a .buf)) (a .len)) (sym e))
 
 pub apply-spec : {M : Type 1} → statement M
 apply-spec =

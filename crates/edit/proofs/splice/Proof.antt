@@ -1,13 +1,18 @@
 -- `splice` meets its contract: its four steps are those of the law `spliced` (proofs/Splicing.antt).
+use Prim.Native.Nat.{ℕ, _+_, _≤_}
 use mathlib.Core.Path.{sym}
-use mir.ValLaws.{toZ-ofZ}
-use Prim.Native.Nat.{_+_, _≤_}
+use mathlib.Core.List.{List}
 use native.Mathlib.Omega.{arith}
 use denote.Ref.{now}
+use lib.IntN.{ℤ}
 use lib.ListN.{length, take}
 use mir.Syntax.{w32}
 use mir.Val.{toZ, ofZ}
-use Rattle.reader.specs.File.{orderOf}
+use mir.ValLaws.{toZ-ofZ}
+use Rattle.offset.specs.Offset.{offsetLimit}
+use Rattle.layout.specs.File.{orderOf}
+use Rattle.edit_plan.specs.declared.Change.{Change}
+use Rattle.edit_plan.specs.declared.Plan.{Plan}
 use Rattle.edit_plan.specs.Planned.{newSize}
 use Rattle.edit_plan.proofs.Planning.{length-new}
 use Rattle.edit_plan.proofs.Deciding.{Allowed, allowed, planned}
@@ -16,23 +21,56 @@ use borrow.Author.Needs.{needs}
 use Rattle.edit.proofs.splice.Statement.{statement}
 use Rattle.edit.proofs.splice.Tie as tie
 
+-- the arguments, at the first step
+abbrev start-at : tie.After-greater → tie.Start
+start-at g = g .before .before .before
+
+abbrev buffer-at : tie.After-greater → List ℕ
+buffer-at g = now (start-at g .args .buf)
+
+abbrev len-at : tie.After-greater → ℕ
+len-at g = start-at g .args .len
+
+abbrev file-at : tie.After-greater → List ℕ
+file-at g = take (len-at g) (buffer-at g)
+
+abbrev change-at : tie.After-greater → Change
+change-at g = start-at g .args .change
+
+abbrev code-at : tie.After-greater → ℤ
+code-at g = start-at g .args .code
+
+abbrev payload-at : tie.After-greater → List ℕ
+payload-at g = now (start-at g .args .payload)
+
+abbrev plan-at : tie.After-greater → Plan
+plan-at g = start-at g .args .plan
+
 -- the edit is allowed, its plan is the one worked out, and its moves fit
-allowed-at : (c : tie.After-greater) → Allowed (take (c .before .before .before .args .len) (now (c .before .before .before .args .buf))) (length (now (c .before .before .before .args .buf))) (c .before .before .before .args .change) (c .before .before .before .args .code) (now (c .before .before .before .args .payload))
-allowed-at c =
-    let a = c .before .before .before .args in
-    let f = take (a .len) (now (a .buf)) in
-    allowed f (length (now (a .buf))) (a .change) (a .code) (now (a .payload)) (planned f (length (now (a .buf))) (a .change) (a .code) (now (a .payload)) (a .plan) (c .before .before .before .pre .1) .0)
+allowed-at : (g : tie.After-greater) → Allowed (file-at g) (length (buffer-at g)) (change-at g) (code-at g) (payload-at g)
+allowed-at g =
+    let n = length (buffer-at g) in
+    allowed (file-at g) n (change-at g) (code-at g) (payload-at g)
+    (planned (file-at g) n (change-at g) (code-at g) (payload-at g) (plan-at g) (start-at g .pre .1) .0)
 
-carries-at : (c : tie.After-greater) → Carries (take (c .before .before .before .args .len) (now (c .before .before .before .args .buf))) (c .before .before .before .args .change) (c .before .before .before .args .code) (now (c .before .before .before .args .payload)) (c .before .before .before .args .plan)
-carries-at c =
-    let a = c .before .before .before .args in
-    let f = take (a .len) (now (a .buf)) in
-    carries f (a .change) (a .code) (now (a .payload)) (a .plan) (planned f (length (now (a .buf))) (a .change) (a .code) (now (a .payload)) (a .plan) (c .before .before .before .pre .1) .1)
+carries-at : (g : tie.After-greater) → Carries (file-at g) (change-at g) (code-at g) (payload-at g) (plan-at g)
+carries-at g =
+    carries (file-at g) (change-at g) (code-at g) (payload-at g) (plan-at g)
+    (planned (file-at g) (length (buffer-at g)) (change-at g) (code-at g) (payload-at g) (plan-at g) (start-at g .pre .1) .1)
 
-sizes-at : (c : tie.After-greater) → Sizes (now (c .before .before .before .args .buf)) (c .before .before .before .args .len) (c .before .before .before .args .change) (c .before .before .before .args .code) (now (c .before .before .before .args .payload)) (c .before .before .before .args .plan)
-sizes-at c =
-    let a = c .before .before .before .args in
-    sizes (now (a .buf)) (a .len) (a .change) (a .code) (now (a .payload)) (a .plan) (c .before .before .before .pre .0) (allowed-at c) (carries-at c)
+sizes-at : (g : tie.After-greater) → Sizes (buffer-at g) (len-at g) (change-at g) (code-at g) (payload-at g) (plan-at g)
+sizes-at g =
+    sizes (buffer-at g) (len-at g) (change-at g) (code-at g) (payload-at g) (plan-at g) (start-at g .pre .0) (allowed-at g) (carries-at g)
+
+-- the steps, from the one behind them
+abbrev room-at : tie.After-put-new → tie.After-make-room
+room-at p = p .before .before .before .before
+
+abbrev new-at : tie.After-put-extender → tie.After-put-new
+new-at e = e .before .before .before .before
+
+abbrev first-at : tie.After-make-room → tie.After-greater
+first-at m = m .before .before
 
 greater-requires : tie.Need-greater-requires
 greater-requires c κs = search needs
@@ -45,58 +83,69 @@ make-room-requires c κs =
 
 put-new-requires : tie.Need-put-new-requires
 put-new-requires c κs =
-    let g = c .before .before .before .before .before in
-    let a = g .before .before .before .args in
+    let m = c .before .before .before in
+    let g = first-at m in
     let s = sizes-at g in
     let v = carries-at g in
-    let n = length-new (a .plan .order) (a .change) (toZ w32 (ofZ w32 (a .code))) (now (a .payload)) in
-    let o = length-new (orderOf (take (a .len) (now (a .buf)))) (a .change) (a .code) (now (a .payload)) in
-    let k = c .before .before .before .make-room .kept .0 in
+    let size = newSize (change-at g) (length (payload-at g)) in
+    let n = length-new (plan-at g .order) (change-at g) (toZ w32 (ofZ w32 (code-at g))) (payload-at g) in
+    let o = length-new (orderOf (file-at g)) (change-at g) (code-at g) (payload-at g) in
+    let k = m .make-room .kept .0 in
     let x = v .new-is in
     let r = s .room in
     let q = s .out in
-    let y : a .plan .at + newSize (a .change) (length (now (a .payload))) ≤ length (now (a .buf)) = omega (arith, x, o, r, q) in
-    let z : a .plan .at + newSize (a .change) (length (now (a .payload))) ≤ 134217728 = omega (arith, x, o, s .new-inside, s .end-limit) in
+    let y : plan-at g .at + size ≤ length (buffer-at g) = omega (arith, x, o, r, q) in
+    let z : plan-at g .at + size ≤ offsetLimit = omega (arith, x, o, s .new-inside, s .end-limit) in
     (omega (arith, n, y, k), omega (arith, n, z))
 
 put-extender-requires : tie.Need-put-extender-requires
 put-extender-requires c κs =
-    let s = sizes-at (c .before .before .before .before .before .before .before .before .before) .inside in
-    omega (arith, c .before .before .before .put-new .kept .0, c .before .before .before .before .before .before .before .make-room .kept .0)
+    let p = c .before .before .before in
+    let m = room-at p in
+    let s = sizes-at (first-at m) .inside in
+    omega (arith, p .put-new .kept .0, m .make-room .kept .0)
 
 put-offset-requires : tie.Need-put-offset-requires
 put-offset-requires c κs =
-    let s = sizes-at (c .before .before .before .before .before .before .before .before .before .before .before .before .before) in
+    let e = c .before .before .before in
+    let p = new-at e in
+    let m = room-at p in
+    let s = sizes-at (first-at m) in
     let i = s .inside in
-    (omega (arith, c .before .before .before .put-extender .kept .0, c .before .before .before .before .before .before .before .put-new .kept .0, c .before .before .before .before .before .before .before .before .before .before .before .make-room .kept .0), s .end-limit)
+    (omega (arith, e .put-extender .kept .0, p .put-new .kept .0, m .make-room .kept .0), s .end-limit)
 
 sub-result : tie.Need-sub-result
 sub-result c =
-    let s = sizes-at (c .before .before .before .before .before .before .before .before .before .before .before .before .before .before .before .before) .out in
-    omega (arith, c .before .before .before .before .before .before .before .before .before .before .before .before .before .before .before .before .greater .ensures)
+    let g = first-at (room-at (new-at (c .before .before .before .before .before .before))) in
+    let s = sizes-at g .out in
+    omega (arith, g .greater .ensures)
 
 add-result : tie.Need-add-result
 add-result c =
-    let s = sizes-at (c .before .before .before .before .before .before .before .before .before .before .before .before .before .before .before .before) in
+    let g = first-at (room-at (new-at (c .before .before .before .before .before .before))) in
+    let s = sizes-at g in
     let r = s .room in
     let o = s .out in
-    let w = c .before .before .before .before .before .before .before .before .before .before .before .before .before .before .before .before .greater .ensures in
-    record { fits = omega (arith, c .before .before .before .before .before .before .before .before .before .before .before .before .before .before .before .before .before .before .before .good) }
+    let w = g .greater .ensures in
+    record { fits = omega (arith, start-at g .good) }
 
 same-length : tie.Need-same-length
 same-length c = search needs
 
 returns : tie.Need-returns
 returns c =
-    let g = c .before .before .before .before .before .before .before .before .before .before .before .before .before .before .before .before in
-    let S = g .before .before .before in
-    let a = S .args in
+    let o = c .before .before in
+    let e = o .before .before .before .before in
+    let p = new-at e in
+    let m = room-at p in
+    let g = first-at m in
+    let s = start-at g in
     let w = g .greater .ensures in
-    let q = toZ-ofZ w32 (a .code) (S .fits .code) in (
+    let q = toZ-ofZ w32 (s .args .code) (s .fits .code) in (
       rw w (sym (sizes-at g .result)),
-      spliced (now (a .buf)) (a .len) (a .change) (a .code) (now (a .payload)) (a .plan) (S .pre .0) (allowed-at g) (carries-at g) (S .fits .code) (g .greater .result)
-          (c .before .before .before .before .before .before .before .before .before .before .before .before .before .before .make-room .last .0) (c .before .before .before .before .before .before .before .before .before .before .put-new .last .0) (c .before .before .before .before .before .before .put-extender .last .0) (c .before .before .put-offset .last .0) w
-          (c .before .before .before .before .before .before .before .before .before .before .before .before .before .before .make-room .ensures) (rw q at (c .before .before .before .before .before .before .before .before .before .before .put-new .ensures)) (c .before .before .before .before .before .before .put-extender .ensures) (c .before .before .put-offset .ensures),
+      spliced (buffer-at g) (len-at g) (change-at g) (code-at g) (payload-at g) (plan-at g) (s .pre .0) (allowed-at g) (carries-at g)
+          (s .fits .code) (g .greater .result) (m .make-room .last .0) (p .put-new .last .0) (e .put-extender .last .0) (o .put-offset .last .0) w
+          (m .make-room .ensures) (rw q at (p .put-new .ensures)) (e .put-extender .ensures) (o .put-offset .ensures),
     )
 
 pub splice-spec : {M : Type 1} → statement M
