@@ -1,4 +1,3 @@
 -- The laws that the functions' proofs cite, the theorems on slice answers, and worked examples.
 pub mod Answers
 pub mod Theorems
-pub mod Examples
