@@ -1,2 +1,2 @@
-// The voxel part of demand 3: what an edit of the extensions leaves of every voxel. There is no code here; the theorems of
-// proofs/Theorems.antt speak of the definitions that `edit`'s and `voxel`'s promises cite.
+// Demand 3 as one theorem, with what an edit of the extensions leaves of every voxel. There is no code here: the theorem
+// `demand-three` in proofs/Theorems.antt speaks of the definitions that the promises of `edit` and `voxel` cite.
