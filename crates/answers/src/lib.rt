@@ -185,7 +185,8 @@ pub fn voxel_reply(located: Located) -> Reply
 
 fn slice_state(refusal: Refusal, state: u32, rank: u32, seconds: f32) -> SliceAnswer
     ensures { λ a.
-        ⌜ a ≡ record { refusal = refusal .number; place = refusal .place; state = state; rank = rank; seconds = seconds } ⌝ }
+        ⌜ a ≡ record {
+            refusal = refusal .number; place = refusal .place; state = state; rank = rank; seconds = seconds } ⌝ }
 {
     SliceAnswer {
         refusal: refusal.number,

@@ -1,2 +1,3 @@
-// Demand 3 as one theorem, with what an edit of the extensions leaves of every voxel. There is no code here: the theorem
-// `demand-three` in proofs/Theorems.antt speaks of the definitions that the promises of `edit` and `voxel` cite.
+// Demand 3 as one theorem, with what an edit of the extensions leaves of every voxel. There is no code here: the
+// theorem `demand-three` in proofs/Theorems.antt speaks of the definitions that the promises of `edit` and `voxel`
+// cite.

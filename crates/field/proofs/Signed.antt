@@ -1,7 +1,7 @@
 -- A signed number and its bits, at any width: what a cast of a sign's half needs.
 use Prim.Native.Nat.{ℕ, suc, _-_, _^_, _<_}
 use mathlib.Core.Path.{_≡_}
-use mathlib.Core.Bool.{true, false}
+use mathlib.Core.Bool.{true, false, true≢false}
 use native.Mathlib.Omega.{arith}
 use borrow.Author.Tests.{ltb-true}
 use lib.IntN.{ℤ, pos, negsuc}
@@ -21,4 +21,4 @@ flipped w (negsuc k) f e =
 -- a number that is not negative is its own bits
 pub plain : (w : Width) (z : ℤ) → SFits w z → ltZ z (pos 0) ≡ false → toZ w (ofZ w z) ≡ pos (ofZ w z)
 plain w (pos n) f e = toZ-pos w n (f .sfits)
-plain w (negsuc k) f e = let z : _≡_ {A = ℕ} 0 1 = cc in absurd (omega arith)
+plain w (negsuc k) f e = absurd (true≢false e)

@@ -1,5 +1,5 @@
-// The layout of a file, by rules 1 to 12: its byte order, its kind and where its image is (01-scope.md, "Refusal numbers",
-// "The header rules"). Of a file's bytes the first 352 are enough, with its length beside them.
+// The layout of a file, by rules 1 to 12: its byte order, its kind and where its image is (01-scope.md, "Refusal
+// numbers", "The header rules"). Of a file's bytes the first 352 are enough, with its length beside them.
 ghost use mathlib.Core.Path.{_≡_};
 ghost use mathlib.Core.List.{[], _∷_};
 ghost use Prim.Native.Nat.{_<_};

@@ -39,15 +39,15 @@ pub record HasOffset (f : Shape) (t : Format) (at : ℕ) : Type 0 where
 
 -- an offset above the limit is outside in either kind
 pub beyond : (kind : Kind) (n len : ℕ) → offsetLimit < n → offsetOutside kind n len ≡ true
-beyond Single n len h = rw (le-ltb n 352 (omega arith), lt-ltb 134217728 n h)
-beyond Pair n len h = rw (lt-ltb 134217728 n h)
+beyond Single n len h = rw (le-ltb n 352 (omega arith), lt-ltb offsetLimit n h)
+beyond Pair n len h = rw (lt-ltb offsetLimit n h)
 
 -- and below the limit the kinds differ
 pub single-outside : (n len : ℕ) → n ≤ offsetLimit → ltb n 352 ≡ offsetOutside Single n len
-single-outside n len h = rw (le-ltb 134217728 n h) (sym (or-false (ltb n 352)))
+single-outside n len h = rw (le-ltb offsetLimit n h) (sym (or-false (ltb n 352)))
 
 pub pair-outside : (n len : ℕ) → n ≤ offsetLimit → ltb offsetLimit len ≡ offsetOutside Pair n len
-pair-outside n len h = rw (le-ltb 134217728 n h)
+pair-outside n len h = rw (le-ltb offsetLimit n h)
 
 same-natural : (z : ℤ) (n : ℕ) → isNumber z n ≡ true → naturalOf z ≡ n
 same-natural (pos m) n e = eqb-true m n e

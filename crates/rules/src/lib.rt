@@ -139,8 +139,8 @@ pub fn judge_record(h: Header) -> Judged
     )
 }
 
-// Whether a file of `len` bytes ends before its image does. Offset and bytes are not added: of any two numbers the sum could
-// wrap.
+// Whether a file of `len` bytes ends before its image does. Offset and bytes are not added: of any two numbers the sum
+// could wrap.
 fn is_short(len: usize, image: Image) -> bool
     ensures { λ r. ⌜ r ≡ isShort len image ⌝ }
 {

@@ -1,5 +1,5 @@
-// Prints voxels' bytes, as `voxel::voxel` hands them back (01-scope.md, "Voxels and byte order": "In another the voxel's
-// bytes are handed back"). What is to be printed stands in the file stdout; a refused voxel has no bytes.
+// Prints voxels' bytes, as `voxel::voxel` hands them back (01-scope.md, "Voxels and byte order": "In another the
+// voxel's bytes are handed back"). What is to be printed stands in the file stdout; a refused voxel has no bytes.
 //
 // Standard input is three files one after the other, 729 bytes; of any other length nothing is printed:
 //   364 bytes: file A of 01-scope.md, a single file of 3 × 2 voxels with the 16-bit values 0 to 5, little-endian;

@@ -1,6 +1,6 @@
 // The first voxels of axis 1, located one after the other: by the record of one reading, and by the file, which is read
-// for each (01-scope.md, "Voxels and byte order": "One call answers the place and length, or the refusal"). Made for the
-// benchmark, whose two rows so answer the same number.
+// for each (01-scope.md, "Voxels and byte order": "One call answers the place and length, or the refusal"). Made for
+// the benchmark, whose two rows so answer the same number.
 ghost use mathlib.Core.Path.{_≡_};
 ghost use Rattle.voxel_run.specs.Farthest.{placeOf, farthestIn, farthest};
 use header::Header;

@@ -38,7 +38,8 @@ files :
     ∷ (0 ∷ [])
     ∷ (11 ∷ 108 ∷ [])
     ∷ []
-unfolding readingOf judgement verdict holdsIn u16At u32At orderOf hasMagic kindOf shapeIn hasNone hasExtensions firstBelow datatypeOf isWhole wholeOf ofBits lt imageBytes voxels axes
+unfolding readingOf judgement verdict holdsIn u16At u32At orderOf hasMagic kindOf shapeIn hasNone hasExtensions
+unfolding firstBelow datatypeOf isWhole wholeOf ofBits lt imageBytes voxels axes
 files = refl
 
 -- in A voxel (2,1), and (3,0)
@@ -49,7 +50,9 @@ in-a :
     ≡ (0 ∷ 362 ∷ 2 ∷ [])
     ∷ (17 ∷ 0 ∷ [])
     ∷ []
-unfolding readingOf judgement verdict holdsIn u16At u32At orderOf hasMagic kindOf shapeIn hasNone hasExtensions firstBelow datatypeOf isWhole wholeOf ofBits lt imageBytes voxels axes sevenAxes within voxelNumber locatedIn locatedOf headerOf
+unfolding readingOf judgement verdict holdsIn u16At u32At orderOf hasMagic kindOf shapeIn hasNone hasExtensions
+unfolding firstBelow datatypeOf isWhole wholeOf ofBits lt imageBytes voxels axes sevenAxes within voxelNumber locatedIn
+unfolding locatedOf headerOf
 in-a = refl
 
 -- offset bits 43B00000, 43B04000 and 43AF8000 in a single file, 4D000000 in a pair, 4D000001 in both
@@ -68,7 +71,8 @@ offsets :
     ∷ (9 ∷ 108 ∷ [])
     ∷ (9 ∷ 108 ∷ [])
     ∷ []
-unfolding readingOf judgement verdict holdsIn u16At u32At orderOf hasMagic kindOf shapeIn hasNone hasExtensions firstBelow datatypeOf isWhole wholeOf ofBits lt imageBytes voxels axes
+unfolding readingOf judgement verdict holdsIn u16At u32At orderOf hasMagic kindOf shapeIn hasNone hasExtensions
+unfolding firstBelow datatypeOf isWhole wholeOf ofBits lt imageBytes voxels axes
 offsets = refl
 
 -- what payloads of 0, 8 and 9 bytes take; 5 bytes appended to A: the length, and vox_offset
@@ -81,7 +85,10 @@ append :
     ∷ (0 ∷ 380 ∷ [])
     ∷ (0x43 ∷ 0xB8 ∷ 0 ∷ 0 ∷ [])
     ∷ []
-unfolding readingOf judgement verdict holdsIn u16At u32At orderOf hasMagic kindOf shapeIn hasNone hasExtensions firstBelow datatypeOf isWhole wholeOf ofBits lt imageBytes voxels axes outcomeOf changeVerdict freshFile editedList extensionList exchange stored endOf tailOf pieces settled put bytesOf padded offsetBits toBits ofInt
+unfolding readingOf judgement verdict holdsIn u16At u32At orderOf hasMagic kindOf shapeIn hasNone hasExtensions
+unfolding firstBelow datatypeOf isWhole wholeOf ofBits lt imageBytes voxels axes outcomeOf changeVerdict freshFile
+unfolding editedList extensionList exchange stored endOf tailOf pieces settled put bytesOf padded offsetBits toBits
+unfolding ofInt
 append = refl
 
 -- voxel (2,1) after it
@@ -90,7 +97,10 @@ append-voxel :
     ∷ []
     ≡ (0 ∷ 378 ∷ 2 ∷ [])
     ∷ []
-unfolding readingOf judgement verdict holdsIn u16At u32At orderOf hasMagic kindOf shapeIn hasNone hasExtensions firstBelow datatypeOf isWhole wholeOf ofBits lt imageBytes voxels axes sevenAxes within voxelNumber locatedIn locatedOf headerOf outcomeOf changeVerdict freshFile editedList extensionList exchange stored endOf tailOf pieces settled put bytesOf padded offsetBits toBits ofInt extensionsIn walk found sizeRule
+unfolding readingOf judgement verdict holdsIn u16At u32At orderOf hasMagic kindOf shapeIn hasNone hasExtensions
+unfolding firstBelow datatypeOf isWhole wholeOf ofBits lt imageBytes voxels axes sevenAxes within voxelNumber locatedIn
+unfolding locatedOf headerOf outcomeOf changeVerdict freshFile editedList extensionList exchange stored endOf tailOf
+unfolding pieces settled put bytesOf padded offsetBits toBits ofInt extensionsIn walk found sizeRule
 append-voxel = refl
 
 -- slices 0 to 5 by ALT_INC: padding, then the ranks of 1 to 5
@@ -99,7 +109,9 @@ alt-inc :
     ∷ []
     ≡ (1 ∷ 2 ∷ 0 ∷ 2 ∷ 3 ∷ 2 ∷ 1 ∷ 2 ∷ 4 ∷ 2 ∷ 2 ∷ [])
     ∷ []
-unfolding readingOf judgement verdict holdsIn u16At u32At orderOf hasMagic kindOf shapeIn hasNone hasExtensions firstBelow datatypeOf isWhole wholeOf ofBits lt imageBytes voxels axes sliceOf sliceIn firstOf isStated headerOf mul ofInt orderIn altRank alt2Rank rankOf
+unfolding readingOf judgement verdict holdsIn u16At u32At orderOf hasMagic kindOf shapeIn hasNone hasExtensions
+unfolding firstBelow datatypeOf isWhole wholeOf ofBits lt imageBytes voxels axes sliceOf sliceIn firstOf isStated
+unfolding headerOf mul ofInt orderIn altRank alt2Rank rankOf
 alt-inc = refl
 
 -- the same by ALT_DEC2
@@ -108,7 +120,9 @@ alt-dec2 :
     ∷ []
     ≡ (1 ∷ 2 ∷ 4 ∷ 2 ∷ 1 ∷ 2 ∷ 3 ∷ 2 ∷ 0 ∷ 2 ∷ 2 ∷ [])
     ∷ []
-unfolding readingOf judgement verdict holdsIn u16At u32At orderOf hasMagic kindOf shapeIn hasNone hasExtensions firstBelow datatypeOf isWhole wholeOf ofBits lt imageBytes voxels axes sliceOf sliceIn firstOf isStated headerOf mul ofInt orderIn altRank alt2Rank rankOf
+unfolding readingOf judgement verdict holdsIn u16At u32At orderOf hasMagic kindOf shapeIn hasNone hasExtensions
+unfolding firstBelow datatypeOf isWhole wholeOf ofBits lt imageBytes voxels axes sliceOf sliceIn firstOf isStated
+unfolding headerOf mul ofInt orderIn altRank alt2Rank rankOf
 alt-dec2 = refl
 
 pub table :

@@ -2,6 +2,7 @@
 use mathlib.Core.Path.{_≡_}
 use mir.Syntax.{w16}
 use mir.Val.{toZ, ofZ}
+use Rattle.header.specs.declared.Intent.{Intent}
 use borrow.Author.Needs.{needs}
 use Rattle.answers.proofs.shown_file.Statement.{statement}
 use Rattle.answers.proofs.shown_file.Tie as tie
@@ -15,10 +16,14 @@ is-pair-requires c κs = search needs
 cast-t9 : tie.Need-cast-t9
 cast-t9 c = search needs
 
-datatype-same : (c : tie.After-struct-told) → toZ w16 (ofZ w16 (c .before .before .before .before .before .before .args .header .intent .datatype)) ≡ c .before .before .before .before .before .before .args .header .intent .datatype
+-- the two signed numbers as they are passed on
+abbrev group : tie.After-struct-told → Intent
+group c = c .before .before .before .before .before .before .args .header .intent
+
+datatype-same : (c : tie.After-struct-told) → toZ w16 (ofZ w16 (group c .datatype)) ≡ group c .datatype
 datatype-same c = search needs
 
-bitpix-same : (c : tie.After-struct-told) → toZ w16 (ofZ w16 (c .before .before .before .before .before .before .args .header .intent .bitpix)) ≡ c .before .before .before .before .before .before .args .header .intent .bitpix
+bitpix-same : (c : tie.After-struct-told) → toZ w16 (ofZ w16 (group c .bitpix)) ≡ group c .bitpix
 bitpix-same c = search needs
 
 returns : tie.Need-returns
