@@ -2,10 +2,10 @@
 -- gives 16". An append gives 24, 1 to 15 and 19 to 22; a replacement 24, 1 to 15, 18, 19, 21 and 22; a removal 24, 1 to 15 and 18.
 use Prim.Native.Nat.{ℕ, _≤_}
 use mathlib.Core.Path.{_≡_, refl, sym, _∙_}
-use mathlib.Core.Bool.{Bool, true, false, not, _||_}
+use mathlib.Core.Bool.{Bool, true, false, not, _||_, false≢true}
 use mathlib.Core.List.{List, [], _∷_}
 use native.Mathlib.Omega.{arith}
-use borrow.Author.Tests.{ltb-true, ltb-false, not-false}
+use borrow.Author.Tests.{eqb-true, ltb-true, ltb-false, not-false}
 use lib.Dec.{eqb, ltb}
 use lib.IntN.{ℤ}
 use lib.ListN.{length, take, length-take}
@@ -60,6 +60,13 @@ module _ (l : List ℕ) (len : ℕ) (change : Change) (code : ℤ) (p : List ℕ
           answered-number (editNumber own) (take len l) r (λ n b. rw b) (λ q. verdict-same q r)
           (λ a w. last-true (between 1 15 (r .number)) (eqb (r .number) 24) (own (r .number)) (given inside a w)) s
 
+never-16 : (own : ℕ → Bool) (n : ℕ) → own 16 ≡ false → editNumber own n ≡ true → eqb n 16 ≡ false
+never-16 own n o e = by (eqb n 16) refl
+  where
+    by : (t : Bool) → eqb n 16 ≡ t → eqb n 16 ≡ false
+    by false h = h
+    by true h = absurd (false≢true (sym o ∙ rw (eqb-true n 16 h) at e))
+
 module _ (l : List ℕ) (len : ℕ) (code : ℤ) (p : List ℕ) (r : Refusal) where
   -- rows that an edit never gives are no rows of its table
   pub append-number : outcomeOf l len Append code p ≡ refused r → editNumber (between 19 22) (r .number) ≡ true
@@ -105,3 +112,9 @@ module _ (l : List ℕ) (len : ℕ) (code : ℤ) (p : List ℕ) (r : Refusal) wh
           by false m =
               let b = ltb-true k (countOf (take len l)) (not-false (ltb k (countOf (take len l))) m) in
               refused-never (sym v ∙ removal-clear (take len l) (length l) k code p a (rw length-take (omega arith)) b)
+
+  -- "it never gives 16"
+  pub edit-never-16 : (change : Change) → outcomeOf l len change code p ≡ refused r → eqb (r .number) 16 ≡ false
+  edit-never-16 Append e = never-16 (between 19 22) (r .number) refl (append-number e)
+  edit-never-16 (Replace k) e = never-16 replaceOwn (r .number) refl (replace-number k e)
+  edit-never-16 (Remove k) e = never-16 removeOwn (r .number) refl (remove-number k e)

@@ -29,7 +29,8 @@ offersNegative Append code = ltZ code (pos 0)
 offersNegative (Replace k) code = ltZ code (pos 0)
 offersNegative (Remove k) code = false
 
--- rule 20: "append where the extender is zero and bytes already follow 352 before the end of the extension region"
+-- rule 20: "append where the extender is zero and bytes already follow 352 before the end of the extension region"; past rule 12 an
+-- extender that is not 1,0,0,0 is zero
 abbrev pub entersPrivate : Change → List ℕ → Bool
 entersPrivate Append f = not (hasExtensions f) && ltb firstPlace (endOf f)
 entersPrivate (Replace k) f = false

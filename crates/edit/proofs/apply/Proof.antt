@@ -83,7 +83,7 @@ returns-3 c =
     let e = outcome-go (now (a .buf)) (a .len) (a .change) (a .code) (now (a .payload)) (p .before .before .before .if1 .left) (t .0 .0)
     (sym (planned-at p) ∙ t .1) in
     let r = rw (toZ-ofZ w32 (a .code) (s .fits .code)) at (c .before .before .splice .ensures) in
-    ((λ i. Done (record { length = r .0 i })) ∙ ap editAnswer (sym e), r .1 ∙ ap (bufferAfter (now (a .buf)) (a .len)) (sym e))
+    rw e ((λ i. Done (record { length = r .0 i })), r .1)
 
 pub apply-spec : {M : Type 1} → statement M
 apply-spec =
