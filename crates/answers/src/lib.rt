@@ -186,7 +186,12 @@ pub fn voxel_reply(located: Located) -> Reply
 fn slice_state(refusal: Refusal, state: u32, rank: u32, seconds: f32) -> SliceAnswer
     ensures { λ a.
         ⌜ a ≡ record {
-            refusal = refusal .number; place = refusal .place; state = state; rank = rank; seconds = seconds } ⌝ }
+          refusal = refusal .number;
+          place = refusal .place;
+          state = state;
+          rank = rank;
+          seconds = seconds;
+        } ⌝ }
 {
     SliceAnswer {
         refusal: refusal.number,

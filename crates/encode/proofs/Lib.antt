@@ -1,3 +1,2 @@
-pub mod Magic
 pub mod Round
 pub mod Widths

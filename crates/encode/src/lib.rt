@@ -2,10 +2,8 @@
 // doesn't read the spans"; all other fields are written as the record has them.
 ghost use mathlib.Core.Path.{_≡_};
 ghost use Prim.Native.Nat.{_<_};
-ghost use lib.ListN.{getD};
 ghost use lib.Seq.{sets};
 ghost use Rattle.field.specs.Numbers.{padded, u32sBytes, i16sBytes};
-ghost use Rattle.header.specs.Fields.{magicOf};
 ghost use Rattle.encode.specs.Encode.{encode, keyBytes, intentBytes, scaleBytes, displayBytes, quaternBytes};
 ghost use Rattle.encode.specs.Encode.{rowsBytes};
 use field::Order;
@@ -17,26 +15,6 @@ use header::Kind;
 use header::Quatern;
 use header::Rows;
 use header::Scale;
-
-// The byte in which the magic of a single file and that of a pair differ.
-fn second_byte(kind: Kind) -> u8
-    ensures { λ r. ⌜ r ≡ getD (magicOf kind) 1 0 ⌝ }
-{
-    match kind {
-        Kind::Single => b'+',
-        Kind::Pair => b'i',
-    }
-}
-
-// The magic of a kind: n+1 or ni1, and a zero byte.
-fn put_magic(buf: &mut [u8], kind: Kind)
-    ensures { λ _. ⌜ now (buf .exit) ≡ sets (now (buf .entry)) 344 (magicOf kind) ⌝ }
-{
-    field::put_byte(buf, 344, b'n');
-    field::put_byte(buf, 345, second_byte(kind));
-    field::put_byte(buf, 346, b'1');
-    field::put_byte(buf, 347, 0);
-}
 
 // The text of a field, at each width that the header has.
 fn put_text10(buf: &mut [u8], at: usize, text: [u8; 10])
@@ -175,7 +153,7 @@ fn write_rows(g: Rows, order: Order, kind: Kind, buf: &mut [u8])
     put_u32x4(buf, 312, order, srow_z);
     let intent_name = g.intent_name;
     put_text16(buf, 328, intent_name);
-    put_magic(buf, kind);
+    magic::put_magic(buf, kind);
 }
 
 // The whole header, in the record's own byte order.

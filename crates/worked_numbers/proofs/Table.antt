@@ -39,6 +39,7 @@ files :
     ∷ (11 ∷ 108 ∷ [])
     ∷ []
 unfolding readingOf judgement verdict holdsIn u16At u32At orderOf hasMagic kindOf shapeIn hasNone hasExtensions
+
 unfolding firstBelow datatypeOf isWhole wholeOf ofBits lt imageBytes voxels axes
 files = refl
 
@@ -51,7 +52,9 @@ in-a :
     ∷ (17 ∷ 0 ∷ [])
     ∷ []
 unfolding readingOf judgement verdict holdsIn u16At u32At orderOf hasMagic kindOf shapeIn hasNone hasExtensions
+
 unfolding firstBelow datatypeOf isWhole wholeOf ofBits lt imageBytes voxels axes sevenAxes within voxelNumber locatedIn
+
 unfolding locatedOf headerOf
 in-a = refl
 
@@ -72,6 +75,7 @@ offsets :
     ∷ (9 ∷ 108 ∷ [])
     ∷ []
 unfolding readingOf judgement verdict holdsIn u16At u32At orderOf hasMagic kindOf shapeIn hasNone hasExtensions
+
 unfolding firstBelow datatypeOf isWhole wholeOf ofBits lt imageBytes voxels axes
 offsets = refl
 
@@ -86,8 +90,11 @@ append :
     ∷ (0x43 ∷ 0xB8 ∷ 0 ∷ 0 ∷ [])
     ∷ []
 unfolding readingOf judgement verdict holdsIn u16At u32At orderOf hasMagic kindOf shapeIn hasNone hasExtensions
+
 unfolding firstBelow datatypeOf isWhole wholeOf ofBits lt imageBytes voxels axes outcomeOf changeVerdict freshFile
+
 unfolding editedList extensionList exchange stored endOf tailOf pieces settled put bytesOf padded offsetBits toBits
+
 unfolding ofInt
 append = refl
 
@@ -98,8 +105,11 @@ append-voxel :
     ≡ (0 ∷ 378 ∷ 2 ∷ [])
     ∷ []
 unfolding readingOf judgement verdict holdsIn u16At u32At orderOf hasMagic kindOf shapeIn hasNone hasExtensions
+
 unfolding firstBelow datatypeOf isWhole wholeOf ofBits lt imageBytes voxels axes sevenAxes within voxelNumber locatedIn
+
 unfolding locatedOf headerOf outcomeOf changeVerdict freshFile editedList extensionList exchange stored endOf tailOf
+
 unfolding pieces settled put bytesOf padded offsetBits toBits ofInt extensionsIn walk found sizeRule
 append-voxel = refl
 
@@ -110,7 +120,9 @@ alt-inc :
     ≡ (1 ∷ 2 ∷ 0 ∷ 2 ∷ 3 ∷ 2 ∷ 1 ∷ 2 ∷ 4 ∷ 2 ∷ 2 ∷ [])
     ∷ []
 unfolding readingOf judgement verdict holdsIn u16At u32At orderOf hasMagic kindOf shapeIn hasNone hasExtensions
+
 unfolding firstBelow datatypeOf isWhole wholeOf ofBits lt imageBytes voxels axes sliceOf sliceIn firstOf isStated
+
 unfolding headerOf mul ofInt orderIn altRank alt2Rank rankOf
 alt-inc = refl
 
@@ -121,7 +133,9 @@ alt-dec2 :
     ≡ (1 ∷ 2 ∷ 4 ∷ 2 ∷ 1 ∷ 2 ∷ 3 ∷ 2 ∷ 0 ∷ 2 ∷ 2 ∷ [])
     ∷ []
 unfolding readingOf judgement verdict holdsIn u16At u32At orderOf hasMagic kindOf shapeIn hasNone hasExtensions
+
 unfolding firstBelow datatypeOf isWhole wholeOf ofBits lt imageBytes voxels axes sliceOf sliceIn firstOf isStated
+
 unfolding headerOf mul ofInt orderIn altRank alt2Rank rankOf
 alt-dec2 = refl
 

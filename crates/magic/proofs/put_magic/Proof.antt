@@ -1,9 +1,9 @@
 -- `put_magic` meets its contract: its four stores are those of the kind's magic.
 use denote.Ref.{now}
-use Rattle.encode.proofs.Magic.{magic-stores}
+use Rattle.magic.proofs.Stores.{magic-stores}
 use borrow.Author.Needs.{needs}
-use Rattle.encode.proofs.put_magic.Statement.{statement}
-use Rattle.encode.proofs.put_magic.Tie as tie
+use Rattle.magic.proofs.put_magic.Statement.{statement}
+use Rattle.magic.proofs.put_magic.Tie as tie
 
 put-byte-requires : tie.Need-put-byte-requires
 put-byte-requires c κs = search needs
