@@ -39,8 +39,7 @@ files :
     ∷ (11 ∷ 108 ∷ [])
     ∷ []
 unfolding readingOf judgement verdict holdsIn u16At u32At orderOf hasMagic kindOf shapeIn hasNone hasExtensions
-
-unfolding firstBelow datatypeOf isWhole wholeOf ofBits lt imageBytes voxels axes
+    firstBelow datatypeOf isWhole wholeOf ofBits lt imageBytes voxels axes
 files = refl
 
 -- in A voxel (2,1), and (3,0)
@@ -52,10 +51,8 @@ in-a :
     ∷ (17 ∷ 0 ∷ [])
     ∷ []
 unfolding readingOf judgement verdict holdsIn u16At u32At orderOf hasMagic kindOf shapeIn hasNone hasExtensions
-
-unfolding firstBelow datatypeOf isWhole wholeOf ofBits lt imageBytes voxels axes sevenAxes within voxelNumber locatedIn
-
-unfolding locatedOf headerOf
+    firstBelow datatypeOf isWhole wholeOf ofBits lt imageBytes voxels axes sevenAxes within voxelNumber locatedIn
+    locatedOf headerOf
 in-a = refl
 
 -- offset bits 43B00000, 43B04000 and 43AF8000 in a single file, 4D000000 in a pair, 4D000001 in both
@@ -75,8 +72,7 @@ offsets :
     ∷ (9 ∷ 108 ∷ [])
     ∷ []
 unfolding readingOf judgement verdict holdsIn u16At u32At orderOf hasMagic kindOf shapeIn hasNone hasExtensions
-
-unfolding firstBelow datatypeOf isWhole wholeOf ofBits lt imageBytes voxels axes
+    firstBelow datatypeOf isWhole wholeOf ofBits lt imageBytes voxels axes
 offsets = refl
 
 -- what payloads of 0, 8 and 9 bytes take; 5 bytes appended to A: the length, and vox_offset
@@ -90,12 +86,9 @@ append :
     ∷ (0x43 ∷ 0xB8 ∷ 0 ∷ 0 ∷ [])
     ∷ []
 unfolding readingOf judgement verdict holdsIn u16At u32At orderOf hasMagic kindOf shapeIn hasNone hasExtensions
-
-unfolding firstBelow datatypeOf isWhole wholeOf ofBits lt imageBytes voxels axes outcomeOf changeVerdict freshFile
-
-unfolding editedList extensionList exchange stored endOf tailOf pieces settled put bytesOf padded offsetBits toBits
-
-unfolding ofInt
+    firstBelow datatypeOf isWhole wholeOf ofBits lt imageBytes voxels axes outcomeOf changeVerdict freshFile
+    editedList extensionList exchange stored endOf tailOf pieces settled put bytesOf padded offsetBits toBits
+    ofInt
 append = refl
 
 -- voxel (2,1) after it
@@ -105,12 +98,9 @@ append-voxel :
     ≡ (0 ∷ 378 ∷ 2 ∷ [])
     ∷ []
 unfolding readingOf judgement verdict holdsIn u16At u32At orderOf hasMagic kindOf shapeIn hasNone hasExtensions
-
-unfolding firstBelow datatypeOf isWhole wholeOf ofBits lt imageBytes voxels axes sevenAxes within voxelNumber locatedIn
-
-unfolding locatedOf headerOf outcomeOf changeVerdict freshFile editedList extensionList exchange stored endOf tailOf
-
-unfolding pieces settled put bytesOf padded offsetBits toBits ofInt extensionsIn walk found sizeRule
+    firstBelow datatypeOf isWhole wholeOf ofBits lt imageBytes voxels axes sevenAxes within voxelNumber locatedIn
+    locatedOf headerOf outcomeOf changeVerdict freshFile editedList extensionList exchange stored endOf tailOf
+    pieces settled put bytesOf padded offsetBits toBits ofInt extensionsIn walk found sizeRule
 append-voxel = refl
 
 -- slices 0 to 5 by ALT_INC: padding, then the ranks of 1 to 5
@@ -120,10 +110,8 @@ alt-inc :
     ≡ (1 ∷ 2 ∷ 0 ∷ 2 ∷ 3 ∷ 2 ∷ 1 ∷ 2 ∷ 4 ∷ 2 ∷ 2 ∷ [])
     ∷ []
 unfolding readingOf judgement verdict holdsIn u16At u32At orderOf hasMagic kindOf shapeIn hasNone hasExtensions
-
-unfolding firstBelow datatypeOf isWhole wholeOf ofBits lt imageBytes voxels axes sliceOf sliceIn firstOf isStated
-
-unfolding headerOf mul ofInt orderIn altRank alt2Rank rankOf
+    firstBelow datatypeOf isWhole wholeOf ofBits lt imageBytes voxels axes sliceOf sliceIn firstOf isStated
+    headerOf mul ofInt orderIn altRank alt2Rank rankOf
 alt-inc = refl
 
 -- the same by ALT_DEC2
@@ -133,10 +121,8 @@ alt-dec2 :
     ≡ (1 ∷ 2 ∷ 4 ∷ 2 ∷ 1 ∷ 2 ∷ 3 ∷ 2 ∷ 0 ∷ 2 ∷ 2 ∷ [])
     ∷ []
 unfolding readingOf judgement verdict holdsIn u16At u32At orderOf hasMagic kindOf shapeIn hasNone hasExtensions
-
-unfolding firstBelow datatypeOf isWhole wholeOf ofBits lt imageBytes voxels axes sliceOf sliceIn firstOf isStated
-
-unfolding headerOf mul ofInt orderIn altRank alt2Rank rankOf
+    firstBelow datatypeOf isWhole wholeOf ofBits lt imageBytes voxels axes sliceOf sliceIn firstOf isStated
+    headerOf mul ofInt orderIn altRank alt2Rank rankOf
 alt-dec2 = refl
 
 pub table :
