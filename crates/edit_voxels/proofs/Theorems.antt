@@ -23,8 +23,9 @@ use Rattle.reader.proofs.File.{record-image}
 use Rattle.buffer.specs.Settled.{settled}
 use Rattle.voxel.specs.declared.Extent.{Extent}
 use Rattle.voxel.specs.declared.Located.the-variants.{At, Unlocated}
-use Rattle.voxel.specs.Voxel.{lengthsOf, voxelBytes, imageRows, locatedOf}
-use Rattle.voxel.proofs.Theorems.{accepted-located, voxel-bytes-are}
+use Rattle.voxel.specs.Voxel.{lengthsOf, voxelBytes, imageRows}
+use Rattle.by_file.specs.Files.{locatedOf}
+use Rattle.by_file.proofs.Voxels.{accepted-located, voxel-bytes-are}
 use Rattle.edit_plan.specs.declared.Change.{Change}
 use Rattle.edit_plan.specs.Fresh.{extensionList, editedList, endFor, freshOf}
 use Rattle.edit.specs.declared.NewFile.{NewFile}

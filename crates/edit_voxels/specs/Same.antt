@@ -10,7 +10,7 @@ use Rattle.rules.specs.Rules.{holder}
 use Rattle.reader.specs.Reading.{readingOf}
 use Rattle.voxel.specs.declared.Extent.{Extent}
 use Rattle.voxel.specs.declared.Located.the-variants.{At, Unlocated}
-use Rattle.voxel.specs.Voxel.{locatedOf, voxelOf}
+use Rattle.by_file.specs.Files.{locatedOf, voxelOf}
 
 -- the bytes of a file, or of its image file, at a place
 abbrev pub bytesOfExtent : List ℕ → List ℕ → Extent → List ℕ

@@ -8,7 +8,6 @@ use borrow.Author.Tests.{ltb-true, le-leb, lt-leb}
 use lib.Dec.{ltb}
 use lib.IntN.{ℤ, pos}
 use lib.Signed.{leZ}
-use Rattle.refusal.specs.declared.Refusal.{Refusal}
 use Rattle.refusal.specs.declared.Verdict.the-variants.{Accepted, Refused as Breaks}
 use Rattle.refusal.specs.Table.{refusal, verdict, decided}
 use Rattle.number.specs.Natural.{naturalOf}
@@ -16,14 +15,13 @@ use Rattle.grid.specs.Grid.{within}
 use Rattle.grid.specs.Axes.{dimAt}
 use Rattle.rules.specs.Rules.{axisCount}
 use Rattle.header.specs.declared.Header.{Header}
-use Rattle.reader.specs.Reading.{readingOf}
 use Rattle.affine.specs.declared.Position.{Position}
 use Rattle.affine.specs.declared.Placed.{Placed}
 use Rattle.affine.specs.declared.Placed.the-variants.{At as Located, NoPosition}
 use Rattle.affine.specs.Method.{finiteRows, finiteResults, positionOf}
 use Rattle.position.specs.declared.Positioned.{Positioned}
 use Rattle.position.specs.declared.Positioned.the-variants.{At, Refused}
-use Rattle.position.specs.Positions.{lengthAt, threeAxes, SmallIndex, resultsIn, positionIn, positionAt}
+use Rattle.position.specs.Positions.{lengthAt, threeAxes, SmallIndex, resultsIn, positionIn}
 
 -- what affine places, as an answer
 abbrev pub fromPlaced : Placed → Positioned
@@ -55,7 +53,7 @@ module _ (a b c i j k : ℕ) where
         third = omega (arith, ltb-true k c (q .1));
       }
 
--- ---- a record's answers
+-- ---- the answers
 module _ (h : Header) (i j k : ℕ) where
   pub position-outside : within (threeAxes (h .dim)) (i ∷ j ∷ k ∷ []) ≡ false → Refused (refusal 17 0) ≡ positionIn h i j k
   unfolding positionIn verdict
@@ -78,13 +76,3 @@ module _ (h : Header) (i j k : ℕ) where
             ≡ decided (cond t (Breaks (refusal 23 0)) Accepted) (At p) Refused
         go true p = refl
         go false p = refl
-
--- ---- a file's answers
-module _ (file : List ℕ) (i j k : ℕ) where
-  pub file-refused : (r : Refusal) → readingOf file .verdict ≡ Breaks r → Refused r ≡ positionAt file i j k
-  unfolding positionAt
-  file-refused r e = rw e
-
-  pub file-answered : readingOf file .verdict ≡ Accepted → positionIn (readingOf file .header) i j k ≡ positionAt file i j k
-  unfolding positionAt
-  file-answered e = rw e

@@ -1,6 +1,5 @@
 -- What holds of every position: its three values are finite; and in the case that 01-scope.md states it is the exact whole number; and
--- which numbers a refusal has. Of a record, and of every file by its record: `position_in` and `position_of` answer what the theorems
--- speak of.
+-- which numbers a refusal has. The crate by_file has the same of files.
 use mathlib.Core.Path.{_≡_, refl, sym, ap, subst, _∙_}
 use mathlib.Core.Bool.{Bool, true, false, not, cond, _&&_, _||_, or-true, and-eq-true-iff}
 use mathlib.Core.List.{List, [], _∷_, _++_}
@@ -13,26 +12,17 @@ use lib.Seq.{getD-append-add}
 use lib.IntN.{ℤ, pos}
 use lib.Signed.{leZ}
 use lib.Ieee.Scale.{finite}
-use Rattle.field.specs.declared.Order.{Order}
-use Rattle.field.specs.declared.Order.the-variants.{Little}
-use Rattle.field.specs.Numbers.{u16At, i16sAt}
 use Rattle.refusal.specs.declared.Refusal.{Refusal}
 use Rattle.refusal.specs.Table.{verdict}
-use Rattle.refusal.proofs.Rows.{Clear, none, one, accepted-clear, decided-accepted, decided-refused, between, verdict-number}
+use Rattle.refusal.proofs.Rows.{Clear, none, one, accepted-clear, decided-accepted, decided-refused, verdict-number}
 use Rattle.number.specs.Natural.{naturalOf}
-use Rattle.number.proofs.Naturals.{natural-half}
-use Rattle.extension.specs.Walk.{Walked, listed, stopped}
 use Rattle.grid.specs.Grid.{within}
 use Rattle.grid.specs.Axes.{dimAt, axes, sevenAxes}
 use Rattle.grid.proofs.Axes.{length-axes, axes-at}
 use Rattle.grid.proofs.Voxels.{within-both}
 use Rattle.header.specs.declared.Header.{Header}
-use Rattle.header.specs.Fields.{headerOf}
 use Rattle.rules.specs.Rules.{axisCount}
 use Rattle.rules.proofs.Passed.{neither}
-use Rattle.layout.specs.File.{orderOf}
-use Rattle.reader.specs.Reading.{judgement, readingBy, readingOf, IsAccepted}
-use Rattle.reader.proofs.Theorems.{answered-number}
 use Rattle.affine.specs.declared.Position.{Position}
 use Rattle.affine.specs.declared.Placed.{Placed}
 use Rattle.affine.specs.declared.Placed.the-variants.{At as Located, NoPosition}
@@ -41,8 +31,8 @@ use Rattle.affine.specs.Whole.{IsWhole, WholeRow, exactOf, PlacedExactly}
 use Rattle.affine.proofs.Theorems.{position-exact}
 use Rattle.position.specs.declared.Positioned.{Positioned}
 use Rattle.position.specs.declared.Positioned.the-variants.{At, Refused}
-use Rattle.position.specs.Positions.{lengthAt, threeAxes, resultsIn, positionRows, positionIn, positionAt}
-use Rattle.position.proofs.Answers.{fromPlaced, placedIn, length-stated, length-past, position-placed, file-answered}
+use Rattle.position.specs.Positions.{lengthAt, threeAxes, resultsIn, positionRows, positionIn}
+use Rattle.position.proofs.Answers.{fromPlaced, placedIn, length-stated, length-past, position-placed}
 
 -- ---- the stated case
 -- "the first three numbers of each row are whole and at most 64 in size, and its last is whole and at most 8,388,608 in size"
@@ -75,46 +65,6 @@ position-in-exact h w i j k a hi hj hk =
     subst (ExactAt h w i j k) (position-placed h i j k (a .inside) (a .above))
     (placed-exactly (placedIn h i j k) _ _ _ (position-exact (w .x) (w .y) (w .z) i j k hi hj hk))
 
--- ---- the lengths of a file's axes
-axis-half : (dim : List ℤ) (axis : ℕ) → naturalOf (dimAt dim axis) < 32768 → lengthAt dim axis < 32768
-axis-half dim axis h = go (leb axis (axisCount dim))
-  where
-    go : (t : Bool) → cond t (naturalOf (dimAt dim axis)) 1 < 32768
-    go true = h
-    go false = omega arith
-
-abbrev ThreeHalf : List ℤ → Type 0
-ThreeHalf dim = (lengthAt dim 1 < 32768) × (lengthAt dim 2 < 32768) × (lengthAt dim 3 < 32768)
-
-read-half : (order : Order) (s : List ℕ) → ThreeHalf (i16sAt order s 40 8)
-read-half order s =
-    let dim = i16sAt order s 40 8 in (
-      axis-half dim 1 (natural-half (u16At order s 42)),
-      axis-half dim 2 (natural-half (u16At order s 44)),
-      axis-half dim 3 (natural-half (u16At order s 46)),
-    )
-
-file-half : (file : List ℕ) → ThreeHalf (readingOf file .header .dim)
-unfolding readingOf headerOf
-file-half file = go (judgement file)
-  where
-    go : (w : Walked) → ThreeHalf (readingBy file w .header .dim)
-    go (listed xs) = read-half (orderOf file) file
-    go (stopped r) = read-half Little []
-
--- In the stated case every accepted file has a position for each index inside its axes, and it is the exact whole number.
-pub file-position-exact : (file : List ℕ) (w : WholeRows (readingOf file .header)) (i j k : ℕ)
-    → IsAccepted file → Answered (readingOf file .header) i j k
-    → ExactAt (readingOf file .header) w i j k (positionAt file i j k)
-file-position-exact file w i j k e a =
-    let h = readingOf file .header in
-    let f = file-half file in
-    let p = within-both _ _ i _ (a .inside) in
-    let q = within-both _ _ j _ (p .1) in
-    let r = within-both _ _ k _ (q .1) in
-    subst (ExactAt h w i j k) (file-answered file i j k e)
-    (position-in-exact h w i j k a (omega (arith, p .0, f .0)) (omega (arith, q .0, f .1)) (omega (arith, r .0, f .2)))
-
 -- ---- the axes are those of a voxel's seven indexes
 pub length-of-seven : (dim : List ℤ) (k : ℕ) → k < 7 → getD (sevenAxes dim (axisCount dim)) k 0 ≡ lengthAt dim (suc k)
 unfolding sevenAxes
@@ -139,7 +89,7 @@ length-of-seven dim k h = go (ltb k (axisCount dim)) refl
 -- ---- every position is finite
 
 -- a position is not a refusal
-unpositioned-never {ℓ} : {A : Type ℓ} {r : Refusal} {p : Position} → Refused r ≡ At p → A
+pub unpositioned-never {ℓ} : {A : Type ℓ} {r : Refusal} {p : Position} → Refused r ≡ At p → A
 unpositioned-never e = let z : _≡_ {A = ℕ} 0 1 = cc in absurd (omega arith)
 
 abbrev pub IsFinite : Position → Type 0
@@ -164,18 +114,12 @@ position-in-finite h i j k p e =
     let same : resultsIn h i j k ≡ p = cc (d .1) in
     subst IsFinite same (results-finite (resultsIn h i j k) (rows-finite h i j k (accepted-clear (positionRows h i j k) (d .0))))
 
-pub file-position-finite : (file : List ℕ) (i j k : ℕ) (p : Position) → positionAt file i j k ≡ At p → IsFinite p
-unfolding positionAt
-file-position-finite file i j k p e =
-    let d = decided-accepted (readingOf file .verdict) (λ r. unpositioned-never) e in
-    position-in-finite (readingOf file .header) i j k p (d .1)
-
 -- ---- The numbers of the refusals
 
-refused-same : (q r : Refusal) → Refused q ≡ Refused r → q ≡ r
+pub refused-same : (q r : Refusal) → Refused q ≡ Refused r → q ≡ r
 refused-same q r e = cc
 
--- of a record 17 and 23
+-- 17 and 23
 abbrev pub recordNumber : ℕ → Bool
 recordNumber n = eqb n 17 || eqb n 23
 
@@ -184,13 +128,3 @@ unfolding positionIn
 position-in-number h i j k r e =
     let d = decided-refused (verdict (positionRows h i j k)) (λ x. unpositioned-never (sym x)) e in
     rw (← refused-same (d .0) r (d .2)) (verdict-number recordNumber (positionRows h i j k) (d .0) refl (d .1))
-
--- and of a file 1 to 15, 17 and 23
-abbrev pub positionNumber : ℕ → Bool
-positionNumber n = between 1 15 n || recordNumber n
-
-pub position-number : (file : List ℕ) (i j k : ℕ) (r : Refusal) → positionAt file i j k ≡ Refused r → positionNumber (r .number) ≡ true
-unfolding positionAt
-position-number file i j k r e =
-    answered-number positionNumber file r (λ n h. rw h) (λ q. refused-same q r)
-    (λ a d. rw (position-in-number (readingOf file .header) i j k r d) (or-true (between 1 15 (r .number)))) e

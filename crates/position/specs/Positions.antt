@@ -11,7 +11,6 @@ use Rattle.grid.specs.Grid.{within}
 use Rattle.grid.specs.Axes.{dimAt}
 use Rattle.header.specs.declared.Header.{Header}
 use Rattle.rules.specs.Rules.{axisCount}
-use Rattle.reader.specs.Reading.{readingOf}
 use Rattle.affine.specs.declared.Position.{Position}
 use Rattle.affine.specs.Method.{resultsOf, srowOf, placeRows}
 use Rattle.position.specs.declared.Positioned.{Positioned}
@@ -44,7 +43,3 @@ positionRows h i j k =
 
 unfoldable pub positionIn : Header → ℕ → ℕ → ℕ → Positioned
 positionIn h i j k = decided (verdict (positionRows h i j k)) (At (resultsIn h i j k)) Refused
-
--- "Slices and positions are asked of the file's bytes alone: 1..15 first, then as said below."
-unfoldable pub positionAt : List ℕ → ℕ → ℕ → ℕ → Positioned
-positionAt file i j k = decided (readingOf file .verdict) (positionIn (readingOf file .header) i j k) Refused

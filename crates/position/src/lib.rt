@@ -1,16 +1,15 @@
-// Positions, by a record and of a file: 01-scope.md, "Slices and positions", second paragraph. The binary32 arithmetic
+// Positions, by a record: 01-scope.md, "Slices and positions", second paragraph. The binary32 arithmetic
 // is that of the crate affine; here stand rules 17 and 23, and which comes first.
 ghost use mathlib.Core.Path.{_≡_};
 ghost use mathlib.Core.Bool.{true};
 ghost use mathlib.Core.List.{[], _∷_};
 ghost use Prim.Native.Nat.{_≤_};
 ghost use Rattle.grid.specs.Grid.{within};
-ghost use Rattle.position.specs.Positions.{lengthAt, threeAxes, SmallIndex, positionIn, positionAt};
+ghost use Rattle.position.specs.Positions.{lengthAt, threeAxes, SmallIndex, positionIn};
 use affine::Placed;
 use affine::Position;
 use header::Header;
 use refusal::Refusal;
-use refusal::Verdict;
 
 // What is answered of a voxel: its position, or a refusal.
 pub enum Positioned {
@@ -66,20 +65,5 @@ pub fn position_in(header: Header, i: u64, j: u64, k: u64) -> Positioned
     match placed {
         Placed::At(p) => Positioned::At(p),
         Placed::NoPosition => refused(23),
-    }
-}
-
-// The position of the voxel i, j, k of a file.
-pub fn position_of(file: &[u8], i: u64, j: u64, k: u64) -> Positioned
-    ensures { λ r. ⌜ r ≡ positionAt (now (file .entry)) i j k ⌝ }
-{
-    let reading = reader::read(file);
-    let verdict = reading.verdict;
-    match verdict {
-        Verdict::Refused(r) => Positioned::Refused(r),
-        Verdict::Accepted => {
-            let header = reading.header;
-            position_in(header, i, j, k)
-        }
     }
 }

@@ -24,10 +24,11 @@ use Rattle.units.specs.Units.{turned}
 use Rattle.voxel.specs.declared.Extent.{Extent}
 use Rattle.voxel.specs.declared.Located.{Located}
 use Rattle.voxel.specs.declared.Located.the-variants.{At, Unlocated}
-use Rattle.voxel.specs.Voxel.{lengthsOf, locatedIn, locatedOf, voxelOf}
+use Rattle.voxel.specs.Voxel.{lengthsOf, locatedIn}
 use Rattle.voxel.proofs.Sized.{Formed, record-formed}
 use Rattle.voxel.proofs.Locating.{Found}
-use Rattle.voxel.proofs.Theorems.{located-both, file-found, voxel-in-image, voxel-bytes-are, voxel-length, refused-empty}
+use Rattle.by_file.specs.Files.{locatedOf, voxelOf}
+use Rattle.by_file.proofs.Voxels.{located-both, file-found, voxel-in-image, voxel-bytes-are, voxel-length, refused-empty}
 use Rattle.byteswap.specs.Swap.{unitIn, swapAnswer, swappedFile, swappedImage}
 use Rattle.byteswap.specs.Other.{readInOther}
 use Rattle.byteswap.proofs.Whole.{unit-known}

@@ -10,19 +10,16 @@ use lib.Signed.{leZ, ltZ}
 use lib.Ieee.{binary32, ofBits}
 use lib.Ieee.Positive.{positive}
 use lib.Ieee.Scale.{finite}
-use Rattle.refusal.specs.declared.Refusal.{Refusal}
-use Rattle.refusal.specs.declared.Verdict.the-variants.{Accepted, Refused as Breaks}
 use Rattle.refusal.specs.Table.{refusal}
 use Rattle.number.specs.Natural.{naturalOf}
 use Rattle.grid.specs.Axes.{dimAt}
 use Rattle.header.specs.declared.Header.{Header}
 use Rattle.rules.specs.Rules.{axisCount}
-use Rattle.reader.specs.Reading.{readingOf}
 use Rattle.slices.specs.declared.Time.the-variants.{Finite, Infinite}
 use Rattle.slices.specs.Times.{timeOf}
 use Rattle.timing.specs.declared.Slice.the-variants.{Refused, Unstated, Padding, Timed}
 use Rattle.timing.specs.Slices.{sliceAxis, acquires, isStated, sliceCount, firstSlice, lastSlice, rankAt, timeAt}
-use Rattle.timing.specs.Slices.{firstOf, sliceIn, timedBy, sliceOf}
+use Rattle.timing.specs.Slices.{firstOf, sliceIn, timedBy}
 
 in-order : (a b c : ℤ) → acquires a b c ≡ true → (naturalOf a < naturalOf b) × (naturalOf b < naturalOf c)
 in-order (negsuc a) b c e = absurd (false≢true e)
@@ -64,7 +61,7 @@ acquired-within s first last e = go (ltb s first) refl e
     go true p q = absurd (false≢true (sym q))
     go false p q = (ltb-false s first p, ltb-false last s q)
 
--- ---- a record's answers
+-- the answers
 module _ (h : Header) (s : ℕ) where
   pub slice-unstated : isStated h ≡ false → Unstated ≡ sliceIn h s
   unfolding sliceIn firstOf
@@ -89,13 +86,3 @@ module _ (h : Header) (s : ℕ) where
               → timedBy (rankAt h s) (cond t (Finite (timeAt h s)) Infinite) ≡ cond (not t) Unstated (Timed (rankAt h s) (timeAt h s))
           go true = refl
           go false = refl
-
--- ---- a file's answers
-module _ (file : List ℕ) (s : ℕ) where
-  pub file-refused : (r : Refusal) → readingOf file .verdict ≡ Breaks r → Refused r ≡ sliceOf file s
-  unfolding sliceOf
-  file-refused r e = rw e
-
-  pub file-answered : readingOf file .verdict ≡ Accepted → sliceIn (readingOf file .header) s ≡ sliceOf file s
-  unfolding sliceOf
-  file-answered e = rw e

@@ -1,3 +1,3 @@
--- The laws that the functions' proofs cite, the theorems on slice answers, and worked examples.
+-- The laws that the functions' proofs cite, and the theorems on slice answers.
 pub mod Answers
 pub mod Theorems

@@ -1,9 +1,8 @@
 -- What holds of every slice answer: a timed one has a rank below the number of acquired slices, and a time that is finite and is the
--- exact product rounded once; a slice outside start..end is padding; a refusal has one of the numbers that the paper gives. Of a
--- record, and of every file by its record: `slice_in` and `slice_at` answer what the theorems speak of.
+-- exact product rounded once; a slice outside start..end is padding; a refusal has the number that the paper gives. The crate by_file
+-- has the same of files.
 use mathlib.Core.Path.{_≡_, refl, sym, ap, _∙_}
 use mathlib.Core.Bool.{Bool, true, false, cond, not, _||_, or-true, false≢true}
-use mathlib.Core.List.{List, []}
 use mathlib.Core.Logic.{_⊎_, inl, inr}
 use Prim.Native.Nat.{ℕ, _*_, _≤_, _<_}
 use native.Mathlib.Omega.{arith}
@@ -12,17 +11,8 @@ use lib.Dec.{leb, ltb, eqb}
 use lib.Ieee.{Float, binary32, ofBits, round}
 use lib.Ieee.Positive.{num, den}
 use lib.Ieee.Scale.{finite}
-use Rattle.field.specs.declared.Order.the-variants.{Little}
-use Rattle.field.specs.Numbers.{u16At}
 use Rattle.refusal.specs.declared.Refusal.{Refusal}
-use Rattle.refusal.proofs.Rows.{decided-accepted, between}
-use Rattle.number.proofs.Naturals.{natural-half}
-use Rattle.extension.specs.Walk.{Walked, listed, stopped}
 use Rattle.header.specs.declared.Header.{Header}
-use Rattle.header.specs.Fields.{headerOf}
-use Rattle.layout.specs.File.{orderOf}
-use Rattle.reader.specs.Reading.{judgement, readingBy, readingOf, IsAccepted}
-use Rattle.reader.proofs.Theorems.{answered-number}
 use Rattle.slices.specs.declared.Time.the-variants.{Finite, Infinite}
 use Rattle.slices.specs.Ranks.{countOf}
 use Rattle.slices.specs.Times.{timeBy, timeOf}
@@ -30,8 +20,8 @@ use Rattle.slices.proofs.RankLaws.{rank-below}
 use Rattle.slices.proofs.TimeLaws.{time-rounded-once}
 use Rattle.timing.specs.declared.Slice.{Slice}
 use Rattle.timing.specs.declared.Slice.the-variants.{Refused, Unstated, Padding, Timed}
-use Rattle.timing.specs.Slices.{isStated, sliceCount, firstSlice, lastSlice, rankAt, timeAt, firstOf, sliceIn, sliceOf}
-use Rattle.timing.proofs.Answers.{stated-has, acquired-within, slice-padding, file-answered}
+use Rattle.timing.specs.Slices.{isStated, sliceCount, firstSlice, lastSlice, rankAt, timeAt, firstOf, sliceIn}
+use Rattle.timing.proofs.Answers.{stated-has, acquired-within, slice-padding}
 
 -- ---- the tests behind a timed answer
 pub record IsTimed (h : Header) (s r : ℕ) (t : Float) : Type 0 where
@@ -42,7 +32,7 @@ pub record IsTimed (h : Header) (s r : ℕ) (t : Float) : Type 0 where
   pub time : timeAt h s ≡ t
   pub reached : finite (timeAt h s) ≡ true
 
-abbrev hasTime : Slice → Bool
+abbrev pub hasTime : Slice → Bool
 hasTime (Timed r t) = true
 hasTime (Refused r) = false
 hasTime Unstated = false
@@ -65,7 +55,7 @@ RoundedOnce h r t =
     let d = ofBits binary32 (h .display .«slice_duration») in
     t ≡ round binary32 false (r * num d) (den d)
 
--- ---- of a record
+-- ---- the answers
 module _ (h : Header) (s : ℕ) where
   module _ (r : ℕ) (t : Float) (timed : sliceIn h s ≡ Timed r t) where
     pub timed-is : IsTimed h s r t
@@ -99,40 +89,9 @@ module _ (h : Header) (s : ℕ) where
   outside-padding e l (inl o) = sym (slice-padding h s e l (rw (lt-ltb s (firstSlice h) o)))
   outside-padding e l (inr o) = sym (slice-padding h s e l (rw (lt-ltb (lastSlice h) s o) (or-true (ltb s (firstSlice h)))))
 
--- ---- of a file
-last-half : (file : List ℕ) → lastSlice (readingOf file .header) < 32768
-unfolding readingOf headerOf
-last-half file = go (judgement file)
-  where
-    go : (w : Walked) → lastSlice (readingBy file w .header) < 32768
-    go (listed xs) = natural-half (u16At (orderOf file) file 120)
-    go (stopped r) = natural-half (u16At Little [] 120)
-
-module _ (file : List ℕ) (s : ℕ) where
-  module _ (r : ℕ) (t : Float) (timed : sliceOf file s ≡ Timed r t) where
-    record-timed : sliceIn (readingOf file .header) s ≡ Timed r t
-    unfolding sliceOf
-    record-timed = decided-accepted (readingOf file .verdict) (λ q e. false≢true (ap hasTime e)) timed .1
-
-    pub file-rank-below : r < countOf (firstSlice (readingOf file .header)) (lastSlice (readingOf file .header))
-    file-rank-below = rank-below-count (readingOf file .header) s r t record-timed
-
-    pub file-time-finite : finite t ≡ true
-    file-time-finite =
-        let w = timed-is (readingOf file .header) s r t record-timed in
-        sym (ap finite (w .time)) ∙ w .reached
-
-    pub file-time-rounded : RoundedOnce (readingOf file .header) r t
-    file-time-rounded = time-rounded (readingOf file .header) s r t record-timed (last-half file)
-
-  pub file-padding : IsAccepted file → isStated (readingOf file .header) ≡ true → s < sliceCount (readingOf file .header)
-      → (s < firstSlice (readingOf file .header)) ⊎ (lastSlice (readingOf file .header) < s)
-      → sliceOf file s ≡ Padding
-  file-padding a e l o = sym (file-answered file s a) ∙ outside-padding (readingOf file .header) s e l o
-
 -- ---- The numbers of the refusals
 
-refused-same : (q r : Refusal) → Refused q ≡ Refused r → q ≡ r
+pub refused-same : (q r : Refusal) → Refused q ≡ Refused r → q ≡ r
 refused-same q r e = cc
 
 -- a number, where the answer is a refusal
@@ -146,7 +105,7 @@ either-numbered : (p : ℕ → Bool) (t : Bool) (x y : Slice) → numbered p x �
 either-numbered p true x y a b = a
 either-numbered p false x y a b = b
 
--- of a record 17 alone
+-- 17 alone
 pub slice-in-number : (h : Header) (s : ℕ) (r : Refusal) → sliceIn h s ≡ Refused r → eqb (r .number) 17 ≡ true
 unfolding sliceIn firstOf
 slice-in-number h s r e =
@@ -155,13 +114,3 @@ slice-in-number h s r e =
     (either-numbered (λ n. eqb n 17) (leb (sliceCount h) s) _ _ refl
     (either-numbered (λ n. eqb n 17) (ltb s (firstSlice h) || ltb (lastSlice h) s) _ _ refl
     (either-numbered (λ n. eqb n 17) (not (finite (timeAt h s))) _ _ refl refl)))
-
--- and of a file 1 to 15 and 17
-abbrev pub sliceNumber : ℕ → Bool
-sliceNumber n = between 1 15 n || eqb n 17
-
-pub slice-number : (file : List ℕ) (s : ℕ) (r : Refusal) → sliceOf file s ≡ Refused r → sliceNumber (r .number) ≡ true
-unfolding sliceOf
-slice-number file s r e =
-    answered-number sliceNumber file r (λ n h. rw h) (λ q. refused-same q r)
-    (λ a d. rw (slice-in-number (readingOf file .header) s r d) (or-true (between 1 15 (r .number)))) e

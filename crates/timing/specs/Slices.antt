@@ -8,12 +8,11 @@ use lib.Signed.{leZ, ltZ}
 use lib.Ieee.{Float, binary32, ofBits}
 use lib.Ieee.Positive.{positive}
 use lib.Ieee.Scale.{finite}
-use Rattle.refusal.specs.Table.{refusal, decided}
+use Rattle.refusal.specs.Table.{refusal}
 use Rattle.number.specs.Natural.{naturalOf}
 use Rattle.grid.specs.Axes.{dimAt}
 use Rattle.header.specs.declared.Header.{Header}
 use Rattle.rules.specs.Rules.{axisCount}
-use Rattle.reader.specs.Reading.{readingOf}
 use Rattle.slices.specs.declared.Time.{Time}
 use Rattle.slices.specs.declared.Time.the-variants.{Finite, Infinite}
 use Rattle.slices.specs.Ranks.{rankIn}
@@ -89,7 +88,3 @@ sliceIn h s = firstOf (casesOf h s) (Timed (rankAt h s) (timeAt h s))
 abbrev pub timedBy : ℕ → Time → Slice
 timedBy rank (Finite t) = Timed rank t
 timedBy rank Infinite = Unstated
-
--- "Slices and positions are asked of the file's bytes alone: 1..15 first, then as said below."
-unfoldable pub sliceOf : List ℕ → ℕ → Slice
-sliceOf file s = decided (readingOf file .verdict) (sliceIn (readingOf file .header) s) Refused

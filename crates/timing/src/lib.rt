@@ -1,4 +1,4 @@
-// Slice timing, of a record and of a file: 01-scope.md, "Slices and positions", first paragraph. How a rank and a time
+// Slice timing, by a record: 01-scope.md, "Slices and positions", first paragraph. How a rank and a time
 // are worked out is for the crate slices; here stand when timing is stated, and which answer comes before which.
 ghost use mathlib.Core.Path.{_≡_};
 ghost use mathlib.Core.Bool.{true};
@@ -7,10 +7,9 @@ ghost use lib.Ieee.{binary32, ofBits};
 ghost use lib.Ieee.Positive.{positive};
 ghost use Rattle.slices.specs.Ranks.{rankIn};
 ghost use Rattle.slices.specs.Times.{timeOf};
-ghost use Rattle.timing.specs.Slices.{sliceDim, acquires, isStated, timedBy, sliceIn, sliceOf};
+ghost use Rattle.timing.specs.Slices.{sliceDim, acquires, isStated, timedBy, sliceIn};
 use header::Header;
 use refusal::Refusal;
-use refusal::Verdict;
 use slices::Time;
 
 // What is answered of a slice: a refusal, that its timing is unstated, that it is padding, or its rank and its time.
@@ -104,20 +103,5 @@ pub fn slice_in(header: Header, s: u64) -> Slice
         slice_stated(header, s)
     } else {
         Slice::Unstated
-    }
-}
-
-// The slice s of a file.
-pub fn slice_at(file: &[u8], s: u64) -> Slice
-    ensures { λ r. ⌜ r ≡ sliceOf (now (file .entry)) s ⌝ }
-{
-    let reading = reader::read(file);
-    let verdict = reading.verdict;
-    match verdict {
-        Verdict::Refused(r) => Slice::Refused(r),
-        Verdict::Accepted => {
-            let header = reading.header;
-            slice_in(header, s)
-        }
     }
 }

@@ -1,4 +1,3 @@
 pub mod Sized
 pub mod Locating
-pub mod Indexes
 pub mod Theorems

@@ -1,16 +1,14 @@
--- Where a voxel's bytes are, and the bytes themselves (01-scope.md, "Voxels and byte order", rules 16 and 17).
+-- Where a voxel's bytes are, by a record (01-scope.md, "Voxels and byte order", rules 16 and 17).
 use Prim.Native.Nat.{ℕ, _+_, _*_, _/_}
 use mathlib.Core.Bool.{not}
 use mathlib.Core.List.{List, [], _∷_, _++_}
-use lib.ListN.{length, take, drop}
 use Rattle.refusal.specs.Table.{Row, row, verdict, decided}
 use Rattle.number.specs.Natural.{naturalOf}
 use Rattle.offset.specs.Offset.{wholeOf}
 use Rattle.grid.specs.Grid.{within, voxelNumber}
 use Rattle.grid.specs.Axes.{sevenAxes}
 use Rattle.header.specs.declared.Header.{Header}
-use Rattle.rules.specs.Rules.{axisCount, imageOf, shapeOfRecord, recordRows, imageCut, holder}
-use Rattle.reader.specs.Reading.{readingOf}
+use Rattle.rules.specs.Rules.{axisCount, imageOf, shapeOfRecord, recordRows, imageCut}
 use Rattle.voxel.specs.declared.Extent.{Extent}
 use Rattle.voxel.specs.declared.Located.{Located}
 use Rattle.voxel.specs.declared.Located.the-variants.{At, Unlocated}
@@ -31,7 +29,7 @@ imageRows h len index =
     ∷ []
 
 -- What is asked of a record, the image file's length and seven indexes. The record's own rules, 2 and 5 to 10, come first: an
--- accepted file's record passes them, so that 16 and 17 alone decide (see `accepted-located` in proofs/Theorems.antt).
+-- accepted file's record passes them, so that 16 and 17 alone decide (see `accepted-located` of the crate by_file).
 abbrev pub voxelRows : Header → ℕ → List ℕ → List Row
 voxelRows h len index = recordRows h ++ imageRows h len index
 
@@ -43,20 +41,6 @@ extentOf h index =
       length = voxelBytes h;
     }
 
--- "One call answers the place and length, or the refusal": of a record that was read before,
+-- "One call answers the place and length, or the refusal": of a record that was read before. The crate by_file has it of files.
 unfoldable pub locatedIn : Header → ℕ → List ℕ → Located
 locatedIn h len index = decided (verdict (voxelRows h len index)) (At (extentOf h index)) Unlocated
-
--- and of files: 1..15 first
-unfoldable pub locatedOf : List ℕ → List ℕ → List ℕ → Located
-locatedOf file image index =
-    let h = readingOf file .header in
-    decided (readingOf file .verdict) (locatedIn h (length image) index) Unlocated
-
-abbrev pub partOf : Located → List ℕ → List ℕ
-partOf (At e) l = take (e .length) (drop (e .place) l)
-partOf (Unlocated r) l = []
-
--- "In another the voxel's bytes are handed back"
-unfoldable pub voxelOf : List ℕ → List ℕ → List ℕ → List ℕ
-voxelOf file image index = partOf (locatedOf file image index) (holder (readingOf file .header .kind) file image)

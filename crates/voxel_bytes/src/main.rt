@@ -1,4 +1,4 @@
-// Prints voxels' bytes, as `voxel::voxel` hands them back (01-scope.md, "Voxels and byte order": "In another the
+// Prints voxels' bytes, as `by_file::voxel` hands them back (01-scope.md, "Voxels and byte order": "In another the
 // voxel's bytes are handed back"). What is to be printed stands in the file stdout; a refused voxel has no bytes.
 //
 // Standard input is three files one after the other, 729 bytes; of any other length nothing is printed:
@@ -45,7 +45,7 @@ fn print_voxel<'a>(file: &'a [u8], image: &'a [u8], i: u64, j: u64) {
     say(b" ");
     say_number(j);
     say(b":");
-    print_bytes(voxel::voxel(file, image, i, j, 0, 0, 0, 0, 0));
+    print_bytes(by_file::voxel(file, image, i, j, 0, 0, 0, 0, 0));
 }
 
 // All six voxels, and the first index outside each axis.

@@ -10,7 +10,8 @@ use Rattle.refusal.specs.Table.{decided}
 use Rattle.reader.specs.Reading.{readingOf, IsAccepted}
 use Rattle.voxel.specs.declared.Located.{Located}
 use Rattle.voxel.specs.declared.Located.the-variants.{Unlocated}
-use Rattle.voxel.specs.Voxel.{locatedIn, locatedOf}
+use Rattle.voxel.specs.Voxel.{locatedIn}
+use Rattle.by_file.specs.Files.{locatedOf}
 use Rattle.voxel_run.specs.Farthest.{placeOf, along, most, farthestIn, farthest}
 
 pub most-none : (f : ℕ → Located) → most f 0 ≡ 0

@@ -4,7 +4,8 @@ use mathlib.Core.List.{List, [], _∷_}
 use Rattle.header.specs.declared.Header.{Header}
 use Rattle.voxel.specs.declared.Located.{Located}
 use Rattle.voxel.specs.declared.Located.the-variants.{At, Unlocated}
-use Rattle.voxel.specs.Voxel.{locatedIn, locatedOf}
+use Rattle.voxel.specs.Voxel.{locatedIn}
+use Rattle.by_file.specs.Files.{locatedOf}
 
 -- a refused voxel counts as 0
 abbrev pub placeOf : Located → ℕ

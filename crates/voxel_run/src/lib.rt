@@ -56,7 +56,7 @@ pub extern "C" fn voxel_run_by_file(file: &[u8], count: u64) -> u64
     let mut most = 0;
     let mut k = 0;
     while k < count {
-        let located = voxel::locate(file, &none, k, 0, 0, 0, 0, 0, 0);
+        let located = by_file::locate(file, &none, k, 0, 0, 0, 0, 0, 0);
         most = number::greater(most, place_of(located));
         k += 1;
     }

@@ -17,8 +17,9 @@ use Rattle.extension.specs.Pieces.{pieces}
 use Rattle.header.specs.Fields.{headerOf}
 use Rattle.layout.specs.File.{holdsIn, orderOf, hasMagic, kindOf, shapeIn, hasNone, hasExtensions, endOf}
 use Rattle.reader.specs.Reading.{judgement, readingOf}
-use Rattle.timing.specs.Slices.{isStated, firstOf, sliceIn, sliceOf}
-use Rattle.voxel.specs.Voxel.{locatedIn, locatedOf}
+use Rattle.timing.specs.Slices.{isStated, firstOf, sliceIn}
+use Rattle.voxel.specs.Voxel.{locatedIn}
+use Rattle.by_file.specs.Files.{locatedOf, sliceOf}
 use Rattle.buffer.specs.Put.{put}
 use Rattle.buffer.specs.Settled.{settled}
 use Rattle.edit_plan.specs.Fresh.{sizeFor, stored, extensionList, tailOf, exchange, editedList, freshFile}

@@ -8,12 +8,11 @@ use Rattle.refusal.specs.declared.Refusal.{Refusal}
 use Rattle.refusal.specs.declared.Verdict.{Verdict}
 use Rattle.refusal.specs.Table.{decided}
 use Rattle.reader.specs.Reading.{readingOf}
-use Rattle.timing.specs.Slices.{sliceOf}
 use Rattle.timing.specs.declared.Slice.{Slice}
 use Rattle.timing.specs.declared.Slice.the-variants as slice
 use Rattle.voxel.specs.declared.Located.{Located}
 use Rattle.voxel.specs.declared.Located.the-variants.{At, Unlocated}
-use Rattle.voxel.specs.Voxel.{locatedOf}
+use Rattle.by_file.specs.Files.{locatedOf, sliceOf}
 use Rattle.edit_plan.specs.declared.Change.the-variants.{Append}
 use Rattle.edit.specs.declared.Edited.{Edited}
 use Rattle.edit.specs.declared.Edited.the-variants.{Done, Denied}

@@ -5,8 +5,8 @@ use native.Mathlib.Omega.{arith}
 use denote.Ref.{now}
 use lib.ListN.{length, take, drop}
 use borrow.Author.Needs.{needs}
-use Rattle.voxel.proofs.part.Statement.{statement}
-use Rattle.voxel.proofs.part.Tie as tie
+use Rattle.by_file.proofs.part.Statement.{statement}
+use Rattle.by_file.proofs.part.Tie as tie
 
 enum-told : tie.Need-enum-told
 enum-told c = search needs

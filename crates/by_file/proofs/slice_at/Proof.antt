@@ -1,11 +1,11 @@
 -- `slice_at` meets its contract: the reading's refusal, and otherwise its record's answer.
 use mathlib.Core.Path.{sym, _∙_}
 use denote.Ref.{now}
-use Rattle.timing.proofs.Answers.{file-refused, file-answered}
+use Rattle.by_file.proofs.Slices.{file-refused, file-answered}
 use Rattle.timing.specs.Slices.{sliceIn}
 use borrow.Author.Needs.{needs}
-use Rattle.timing.proofs.slice_at.Statement.{statement}
-use Rattle.timing.proofs.slice_at.Tie as tie
+use Rattle.by_file.proofs.slice_at.Statement.{statement}
+use Rattle.by_file.proofs.slice_at.Tie as tie
 
 read-requires : tie.Need-read-requires
 read-requires c κs = search needs

@@ -1,11 +1,11 @@
 -- `position_of` meets its contract: the reading's refusal, and otherwise its record's answer.
 use mathlib.Core.Path.{sym, _∙_}
 use denote.Ref.{now}
-use Rattle.position.proofs.Answers.{file-refused, file-answered}
+use Rattle.by_file.proofs.Positions.{file-refused, file-answered}
 use Rattle.position.specs.Positions.{positionIn}
 use borrow.Author.Needs.{needs}
-use Rattle.position.proofs.position_of.Statement.{statement}
-use Rattle.position.proofs.position_of.Tie as tie
+use Rattle.by_file.proofs.position_of.Statement.{statement}
+use Rattle.by_file.proofs.position_of.Tie as tie
 
 read-requires : tie.Need-read-requires
 read-requires c κs = search needs

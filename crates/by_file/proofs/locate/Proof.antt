@@ -1,8 +1,8 @@
 -- `locate` meets its contract: the file is read, and its reading asked.
-use Rattle.voxel.specs.Voxel.{locatedOf}
+use Rattle.by_file.specs.Files.{locatedOf}
 use borrow.Author.Needs.{needs}
-use Rattle.voxel.proofs.locate.Statement.{statement}
-use Rattle.voxel.proofs.locate.Tie as tie
+use Rattle.by_file.proofs.locate.Statement.{statement}
+use Rattle.by_file.proofs.locate.Tie as tie
 
 read-requires : tie.Need-read-requires
 read-requires c κs = search needs

@@ -1,13 +1,13 @@
--- `voxel` meets its contract: the part that is located is inside the file that holds it, by proofs/Theorems.antt.
+-- `voxel` meets its contract: the part that is located is inside the file that holds it, by proofs/Voxels.antt.
 use mathlib.Core.Path.{_≡_, sym, _∙_}
 use mathlib.Core.List.{List, [], _∷_}
 use Prim.Native.Nat.{ℕ}
 use denote.Ref.{now}
-use Rattle.voxel.specs.Voxel.{locatedOf}
-use Rattle.voxel.proofs.Theorems.{refused-empty, voxel-in-file, voxel-bytes-are}
+use Rattle.by_file.specs.Files.{locatedOf}
+use Rattle.by_file.proofs.Voxels.{refused-empty, voxel-in-file, voxel-bytes-are}
 use borrow.Author.Needs.{needs}
-use Rattle.voxel.proofs.voxel.Statement.{statement}
-use Rattle.voxel.proofs.voxel.Tie as tie
+use Rattle.by_file.proofs.voxel.Statement.{statement}
+use Rattle.by_file.proofs.voxel.Tie as tie
 
 read-requires : tie.Need-read-requires
 read-requires c κs = search needs

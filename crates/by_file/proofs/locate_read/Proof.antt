@@ -1,7 +1,7 @@
 -- `locate_read` meets its contract: a file's refusal, and else the record's answer.
 use borrow.Author.Needs.{needs}
-use Rattle.voxel.proofs.locate_read.Statement.{statement}
-use Rattle.voxel.proofs.locate_read.Tie as tie
+use Rattle.by_file.proofs.locate_read.Statement.{statement}
+use Rattle.by_file.proofs.locate_read.Tie as tie
 
 enum-known-verdict : tie.Need-enum-known-verdict
 enum-known-verdict c = search needs

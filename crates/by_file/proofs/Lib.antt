@@ -1,0 +1,5 @@
+-- The theorems on what is asked of a file: voxels, slices, positions.
+mod Indexes
+pub mod Voxels
+pub mod Slices
+pub mod Positions
