@@ -15,10 +15,11 @@ use Rattle.refusal.specs.Table.{row, refusal, verdict}
 use Rattle.refusal.proofs.Rows.{between, verdict-number, decided-refused, refused-never}
 use Rattle.reader.specs.Reading.{IsAccepted}
 use Rattle.reader.proofs.Theorems.{answered-number}
-use Rattle.edit_plan.specs.declared.Change.{Change}
-use Rattle.edit_plan.specs.declared.Change.the-variants.{Append, Replace, Remove}
+use Rattle.change.specs.declared.Change.{Change}
+use Rattle.change.specs.declared.Change.the-variants.{Append, Replace, Remove}
+use Rattle.change.specs.Change.{missingIn, offersNegative}
 use Rattle.edit_plan.specs.Fresh.{editedList, freshOf}
-use Rattle.edit_plan.specs.Refusals.{missingIn, offersNegative, entersPrivate, tooMuch, changeRows, changeVerdict}
+use Rattle.edit_plan.specs.Refusals.{entersPrivate, tooMuch, changeRows, changeVerdict}
 use Rattle.edit_plan.proofs.Planning.{countOf}
 use Rattle.edit.specs.Outcome.{refused, outcomeOf}
 use Rattle.edit.proofs.Outcomes.{outcome-24, outcome-is}

@@ -9,7 +9,7 @@ use Rattle.refusal.specs.declared.Refusal.{Refusal}
 use Rattle.refusal.specs.declared.Verdict.the-variants.{Refused}
 use Rattle.refusal.specs.Table.{refusal, verdict, decided}
 use Rattle.refusal.proofs.Rows.{decided-refused}
-use Rattle.edit_plan.specs.declared.Change.{Change}
+use Rattle.change.specs.declared.Change.{Change}
 use Rattle.edit_plan.specs.declared.Plan.{Plan}
 use Rattle.edit_plan.specs.declared.Planned.the-variants.{Go, Stop}
 use Rattle.edit_plan.specs.Fresh.{freshOf}

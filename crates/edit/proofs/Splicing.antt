@@ -17,7 +17,7 @@ use Rattle.buffer.specs.Put.{put}
 use Rattle.buffer.specs.Settled.{settled}
 use Rattle.buffer.proofs.Laws.{length-put, put-left}
 use Rattle.buffer.proofs.Settled.{replaced, settled-put, settle}
-use Rattle.edit_plan.specs.declared.Change.{Change}
+use Rattle.change.specs.declared.Change.{Change}
 use Rattle.edit_plan.specs.declared.Plan.{Plan}
 use Rattle.edit_plan.specs.Fresh.{extensionList, tailOf, exchange, outFrom, outTo, broughtIn, editedList, extenderFor, endFor, headFor}
 use Rattle.edit_plan.specs.Fresh.{freshFile, freshOf}

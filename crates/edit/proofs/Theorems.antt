@@ -30,8 +30,8 @@ use Rattle.reader.specs.Reading.{readingOf, IsAccepted}
 use Rattle.reader.proofs.File.{AcceptedFile, accepted-file, accepted-reads, accepted-image, accepted-shape}
 use Rattle.buffer.specs.Settled.{settled}
 use Rattle.buffer.proofs.Settled.{take-settled}
-use Rattle.edit_plan.specs.declared.Change.{Change}
-use Rattle.edit_plan.specs.declared.Change.the-variants.{Remove}
+use Rattle.change.specs.declared.Change.{Change}
+use Rattle.change.specs.declared.Change.the-variants.{Remove}
 use Rattle.edit_plan.specs.Fresh.{extensionList, editedList, endFor, freshOf}
 use Rattle.edit_plan.specs.Refusals.{tooMuch, changeRows, changeVerdict}
 use Rattle.edit_plan.specs.Planned.{bytesOut}

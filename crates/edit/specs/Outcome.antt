@@ -9,7 +9,7 @@ use Rattle.refusal.specs.declared.Refusal.{Refusal}
 use Rattle.refusal.specs.declared.Verdict.{Verdict}
 use Rattle.refusal.specs.Table.{row, verdict, decided, then}
 use Rattle.buffer.specs.Settled.{settled}
-use Rattle.edit_plan.specs.declared.Change.{Change}
+use Rattle.change.specs.declared.Change.{Change}
 use Rattle.edit_plan.specs.Fresh.{freshOf}
 use Rattle.edit_plan.specs.Refusals.{changeVerdict}
 use Rattle.edit.specs.declared.Edited.{Edited}

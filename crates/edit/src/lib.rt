@@ -10,7 +10,7 @@ ghost use Rattle.buffer.specs.Settled.{settled};
 ghost use Rattle.edit_plan.specs.Fresh.{freshOf};
 ghost use Rattle.edit_plan.specs.Planned.{plannedOf};
 ghost use Rattle.edit.specs.Outcome.{outcomeOf, editAnswer, bufferAfter};
-use edit_plan::Change;
+use change::Change;
 use edit_plan::Plan;
 use edit_plan::Planned;
 use extension::FIRST;

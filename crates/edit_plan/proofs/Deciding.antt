@@ -29,15 +29,16 @@ use Rattle.layout.specs.File.{orderOf, kindOf, layoutOf, endOf}
 use Rattle.reader.specs.declared.Reading.{Reading}
 use Rattle.reader.specs.Reading.{acceptedWith, readingOf, IsAccepted}
 use Rattle.reader.proofs.File.{AcceptedFile, accepted-file, accepted-reads}
-use Rattle.edit_plan.specs.declared.Change.{Change}
-use Rattle.edit_plan.specs.declared.Change.the-variants.{Append, Replace, Remove}
+use Rattle.change.specs.declared.Change.{Change}
+use Rattle.change.specs.declared.Change.the-variants.{Append, Replace, Remove}
+use Rattle.change.specs.declared.Slot.{Slot}
+use Rattle.change.specs.Change.{missingIn, offersNegative, entersBytes, tooMany, slotOf, newSize, sizeCap}
 use Rattle.edit_plan.specs.declared.Plan.{Plan}
 use Rattle.edit_plan.specs.declared.Planned.{Planned}
 use Rattle.edit_plan.specs.declared.Planned.the-variants.{Go, Stop}
-use Rattle.edit_plan.specs.declared.Slot.{Slot}
 use Rattle.edit_plan.specs.Fresh.{extensionList, outFrom, outTo, broughtIn, editedList, endFor, freshOf}
-use Rattle.edit_plan.specs.Refusals.{missingIn, offersNegative, entersPrivate, tooMuch, changeRows, changeVerdict}
-use Rattle.edit_plan.specs.Planned.{entersBytes, tooMany, slotOf, newSize, sizeCap, bytesBefore, bytesOut, planOf, plannedOf}
+use Rattle.edit_plan.specs.Refusals.{entersPrivate, tooMuch, changeRows, changeVerdict}
+use Rattle.edit_plan.specs.Planned.{bytesBefore, bytesOut, planOf, plannedOf}
 use Rattle.edit_plan.proofs.Cutting.{list-complete, length-list, Cut}
 use Rattle.edit_plan.proofs.Sizing.{stored-complete}
 use Rattle.edit_plan.proofs.Exchanging.{complete-exchange}

@@ -27,12 +27,13 @@ use Rattle.header.specs.declared.Kind.the-variants.{Single, Pair}
 use Rattle.layout.specs.File.{orderOf, kindOf, endOf}
 use Rattle.reader.proofs.File.{AcceptedFile}
 use Rattle.buffer.proofs.Laws.{length-put}
-use Rattle.edit_plan.specs.declared.Change.{Change}
-use Rattle.edit_plan.specs.declared.Change.the-variants.{Append, Replace, Remove}
+use Rattle.change.specs.declared.Change.{Change}
+use Rattle.change.specs.declared.Change.the-variants.{Append, Replace, Remove}
+use Rattle.change.specs.Change.{missingIn, entersBytes, tooMany, slotAt, slotOf, newSize, sizeCap}
 use Rattle.edit_plan.specs.Fresh.{extensionList, tailOf, outFrom, outTo, broughtIn, editedList, extenderFor, endFor, headFor}
 use Rattle.edit_plan.specs.Fresh.{freshFile, freshOf}
-use Rattle.edit_plan.specs.Refusals.{missingIn, entersPrivate, tooMuch}
-use Rattle.edit_plan.specs.Planned.{entersBytes, tooMany, slotAt, slotOf, newSize, sizeCap, bytesBefore, bytesOut}
+use Rattle.edit_plan.specs.Refusals.{entersPrivate, tooMuch}
+use Rattle.edit_plan.specs.Planned.{bytesBefore, bytesOut}
 use Rattle.edit_plan.proofs.Exchanging.{before-all, before-later, before-next, length-exchange, bytes-exchange}
 use Rattle.edit_plan.proofs.Sizing.{length-stored}
 use Rattle.edit_plan.proofs.Cutting.{list-complete, list-spans, length-list, none-listed, Cut, cut}

@@ -1,5 +1,5 @@
--- The stored extension E: its size is the least that the rules allow, and with a code that is not negative it is complete.
-use Prim.Native.Nat.{ℕ, _+_, _-_, _%_, _≤_, _<_}
+-- The stored extension E: it has as many bytes as its size says, and with a code that is not negative it is complete.
+use Prim.Native.Nat.{ℕ, _+_, _-_, _<_}
 use mathlib.Core.Path.{_≡_, refl}
 use mathlib.Core.Bool.{false}
 use mathlib.Core.List.{List, [], _++_}
@@ -15,11 +15,8 @@ use Rattle.field.specs.Numbers.{bytesOf, u32At}
 use Rattle.field.proofs.Inverse.{word-at}
 use Rattle.field.proofs.Stores.{length-bytesOf}
 use Rattle.extension.specs.Pieces.{Complete}
-use Rattle.edit_plan.specs.Fresh.{sizeFor, stored}
-
--- "the least multiple of 16 that is at least L + 8"
-pub size-least : (n : ℕ) → (sizeFor n % 16 ≡ 0) × (n + 8 ≤ sizeFor n) × ((m : ℕ) → m % 16 ≡ 0 → n + 8 ≤ m → sizeFor n ≤ m)
-size-least n = (omega arith, omega arith, λ m u h. omega arith)
+use Rattle.change.specs.Change.{sizeFor}
+use Rattle.edit_plan.specs.Fresh.{stored}
 
 pub length-stored : (order : Order) (code : ℤ) (p : List ℕ) → length (stored order code p) ≡ sizeFor (length p)
 unfolding stored

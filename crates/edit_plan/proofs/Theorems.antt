@@ -7,7 +7,7 @@ use lib.IntN.{ℤ}
 use lib.ListN.{take, drop}
 use lib.Seq.{take-length, drop-length}
 use Rattle.layout.specs.File.{orderOf}
-use Rattle.edit_plan.specs.declared.Change.the-variants.{Append, Replace, Remove}
+use Rattle.change.specs.declared.Change.the-variants.{Append, Replace, Remove}
 use Rattle.edit_plan.specs.Fresh.{stored, extensionList, exchange, editedList}
 
 module _ (f : List ℕ) (code : ℤ) (p : List ℕ) where

@@ -1,6 +1,6 @@
 -- The fresh file of demand 3, "worked out from the old file (the buffer up to the stated length) and the edit's arguments, never from
 -- the record" (01-scope.md, "Extensions"). f is the old file everywhere.
-use Prim.Native.Nat.{ℕ, _+_, _-_, _*_, _/_}
+use Prim.Native.Nat.{ℕ, _+_, _-_}
 use mathlib.Core.List.{List, [], _∷_, _++_}
 use lib.IntN.{ℤ}
 use lib.ListN.{length, take, drop, replicate}
@@ -18,12 +18,9 @@ use Rattle.rules.specs.Rules.{imageOf}
 use Rattle.layout.specs.File.{orderOf, kindOf, shapeOf, noExtensions, someExtensions, endOf}
 use Rattle.reader.specs.Reading.{judgement}
 use Rattle.buffer.specs.Put.{put}
-use Rattle.edit_plan.specs.declared.Change.{Change}
-use Rattle.edit_plan.specs.declared.Change.the-variants.{Append, Replace, Remove}
-
--- "its size the least multiple of 16 that is at least L + 8" (the law `size-least` says so)
-abbrev pub sizeFor : ℕ → ℕ
-sizeFor n = (n + 23) / 16 * 16
+use Rattle.change.specs.declared.Change.{Change}
+use Rattle.change.specs.declared.Change.the-variants.{Append, Replace, Remove}
+use Rattle.change.specs.Change.{sizeFor}
 
 -- E: "size and code in the file's order, the L bytes, the spare zeros"
 unfoldable pub stored : Order → ℤ → List ℕ → List ℕ

@@ -4,30 +4,18 @@ use Prim.Native.Nat.{ℕ}
 use mathlib.Core.Bool.{Bool, false, not, _&&_, _||_}
 use mathlib.Core.List.{List, [], _∷_}
 use lib.Dec.{ltb}
-use lib.IntN.{ℤ, pos}
+use lib.IntN.{ℤ}
 use lib.ListN.{length}
-use lib.Signed.{ltZ}
 use Rattle.refusal.specs.declared.Verdict.{Verdict}
 use Rattle.refusal.specs.Table.{Row, row, verdict, then}
 use Rattle.offset.specs.Offset.{offsetLimit}
 use Rattle.extension.specs.Walk.{extensionLimit, firstPlace}
 use Rattle.layout.specs.File.{hasExtensions, endOf}
 use Rattle.reader.specs.Reading.{readingOf}
-use Rattle.edit_plan.specs.declared.Change.{Change}
-use Rattle.edit_plan.specs.declared.Change.the-variants.{Append, Replace, Remove}
+use Rattle.change.specs.declared.Change.{Change}
+use Rattle.change.specs.declared.Change.the-variants.{Append, Replace, Remove}
+use Rattle.change.specs.Change.{missingIn, offersNegative}
 use Rattle.edit_plan.specs.Fresh.{extensionList, editedList, endFor, freshOf}
-
--- rule 18: "no extension with that number (first is 0)", in a list of n
-abbrev pub missingIn : Change → ℕ → Bool
-missingIn Append n = false
-missingIn (Replace k) n = not (ltb k n)
-missingIn (Remove k) n = not (ltb k n)
-
--- rule 19: "code offered is negative"; a removal offers none
-abbrev pub offersNegative : Change → ℤ → Bool
-offersNegative Append code = ltZ code (pos 0)
-offersNegative (Replace k) code = ltZ code (pos 0)
-offersNegative (Remove k) code = false
 
 -- rule 20: "append where the extender is zero and bytes already follow 352 before the end of the extension region"; past rule 12 an
 -- extender that is not 1,0,0,0 is zero

@@ -21,7 +21,8 @@ use Rattle.buffer.specs.Put.{put}
 use Rattle.buffer.specs.Settled.{settled}
 use Rattle.buffer.proofs.Laws.{sets-put, put-right, put-append}
 use Rattle.buffer.proofs.Settled.{settled-put}
-use Rattle.edit_plan.specs.Fresh.{sizeFor, stored, extenderFor, endFor, headFor}
+use Rattle.change.specs.Change.{sizeFor}
+use Rattle.edit_plan.specs.Fresh.{stored, extenderFor, endFor, headFor}
 use Rattle.edit_plan.proofs.Exchanging.{joined-some}
 use Rattle.edit_store.specs.Stores.{extenderBytes}
 

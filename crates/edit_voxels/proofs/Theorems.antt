@@ -26,7 +26,7 @@ use Rattle.voxel.specs.declared.Located.the-variants.{At, Unlocated}
 use Rattle.voxel.specs.Voxel.{lengthsOf, voxelBytes, imageRows}
 use Rattle.by_file.specs.Files.{locatedOf}
 use Rattle.by_file.proofs.Voxels.{accepted-located, voxel-bytes-are}
-use Rattle.edit_plan.specs.declared.Change.{Change}
+use Rattle.change.specs.declared.Change.{Change}
 use Rattle.edit_plan.specs.Fresh.{extensionList, editedList, endFor, freshOf}
 use Rattle.edit.specs.declared.NewFile.{NewFile}
 use Rattle.edit.specs.declared.Edited.the-variants.{Done}

@@ -7,7 +7,7 @@ ghost use lib.IntN.{pos};
 ghost use Rattle.reader.specs.Reading.{readingOf};
 ghost use Rattle.by_file.specs.Files.{locatedOf, sliceOf, positionAt};
 ghost use Rattle.byteswap.specs.Swap.{swapAnswer, swappedFile, swappedImage};
-ghost use Rattle.edit_plan.specs.declared.Change.the-variants.{Append, Replace, Remove};
+ghost use Rattle.change.specs.declared.Change.the-variants.{Append, Replace, Remove};
 ghost use Rattle.edit.specs.Outcome.{outcomeOf, editAnswer, bufferAfter};
 ghost use Rattle.answers.specs.Answers.{voxelReply, swapReply, editReply, fileAnswer, extensionAnswer, sliceAnswer};
 ghost use Rattle.answers.specs.Answers.{positionAnswer};

@@ -22,7 +22,8 @@ use Rattle.voxel.specs.Voxel.{locatedIn}
 use Rattle.by_file.specs.Files.{locatedOf, sliceOf}
 use Rattle.buffer.specs.Put.{put}
 use Rattle.buffer.specs.Settled.{settled}
-use Rattle.edit_plan.specs.Fresh.{sizeFor, stored, extensionList, tailOf, exchange, editedList, freshFile}
+use Rattle.change.specs.Change.{sizeFor}
+use Rattle.edit_plan.specs.Fresh.{stored, extensionList, tailOf, exchange, editedList, freshFile}
 use Rattle.edit_plan.specs.Refusals.{changeVerdict}
 use Rattle.edit.specs.Outcome.{outcomeOf, editAnswer}
 use Rattle.worked_numbers.specs.Worked.{zeros, fileWith, pairWith, fileA, reading, offsetRead, at, ofEdited, note, appended, slicesBy}

@@ -13,7 +13,7 @@ use Rattle.timing.specs.declared.Slice.the-variants as slice
 use Rattle.voxel.specs.declared.Located.{Located}
 use Rattle.voxel.specs.declared.Located.the-variants.{At, Unlocated}
 use Rattle.by_file.specs.Files.{locatedOf, sliceOf}
-use Rattle.edit_plan.specs.declared.Change.the-variants.{Append}
+use Rattle.change.specs.declared.Change.the-variants.{Append}
 use Rattle.edit.specs.declared.Edited.{Edited}
 use Rattle.edit.specs.declared.Edited.the-variants.{Done, Denied}
 use Rattle.edit.specs.Outcome.{Outcome, outcomeOf, bufferAfter}

@@ -11,9 +11,9 @@ use mir.Val.{toZ, ofZ}
 use mir.ValLaws.{toZ-ofZ}
 use Rattle.offset.specs.Offset.{offsetLimit}
 use Rattle.layout.specs.File.{orderOf}
-use Rattle.edit_plan.specs.declared.Change.{Change}
+use Rattle.change.specs.declared.Change.{Change}
+use Rattle.change.specs.Change.{newSize}
 use Rattle.edit_plan.specs.declared.Plan.{Plan}
-use Rattle.edit_plan.specs.Planned.{newSize}
 use Rattle.edit_plan.proofs.Planning.{length-new}
 use Rattle.edit_plan.proofs.Deciding.{Allowed, allowed, planned}
 use Rattle.edit.proofs.Splicing.{Carries, carries, Sizes, sizes, spliced}

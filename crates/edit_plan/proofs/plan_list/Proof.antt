@@ -12,9 +12,8 @@ use mir.ValLaws.{toZ-ofZ}
 use Rattle.extension.specs.Walk.{firstPlace}
 use Rattle.rules.specs.Rules.{regionEnd}
 use Rattle.reader.specs.declared.Reading.{Reading}
-use Rattle.edit_plan.specs.declared.Change.{Change}
-use Rattle.edit_plan.specs.Refusals.{missingIn, offersNegative}
-use Rattle.edit_plan.specs.Planned.{entersBytes}
+use Rattle.change.specs.declared.Change.{Change}
+use Rattle.change.specs.Change.{missingIn, offersNegative, entersBytes}
 use Rattle.edit_plan.proofs.Planning.{out-inside}
 use Rattle.edit_plan.proofs.Deciding.{Past, Numbers, past, numbers, on-18, on-19, on-20, on-21, on-22, on-go}
 use borrow.Author.Needs.{needs}

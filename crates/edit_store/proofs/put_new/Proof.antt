@@ -8,9 +8,9 @@ use mir.Syntax.{w32}
 use mir.ValLaws.{toZ-ofZ}
 use Rattle.buffer.specs.Put.{put}
 use Rattle.buffer.proofs.Laws.{put-nil}
-use Rattle.edit_plan.specs.declared.Change.{Change}
+use Rattle.change.specs.declared.Change.{Change}
+use Rattle.change.specs.Change.{newSize}
 use Rattle.edit_plan.specs.Fresh.{stored}
-use Rattle.edit_plan.specs.Planned.{newSize}
 use Rattle.edit_plan.proofs.Planning.{length-new}
 use borrow.Author.Needs.{needs}
 use Rattle.edit_store.proofs.put_new.Statement.{statement}

@@ -1,7 +1,7 @@
 -- `is_missing` meets its contract: only a number that is given is asked.
 use borrow.Author.Needs.{needs}
-use Rattle.edit_plan.proofs.is_missing.Statement.{statement}
-use Rattle.edit_plan.proofs.is_missing.Tie as tie
+use Rattle.change.proofs.is_missing.Statement.{statement}
+use Rattle.change.proofs.is_missing.Tie as tie
 
 enum-told : tie.Need-enum-told
 enum-told c = search needs

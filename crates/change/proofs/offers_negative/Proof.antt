@@ -2,8 +2,8 @@
 use mir.Syntax.{w32}
 use mir.ValLaws.{toZ-ofZ}
 use borrow.Author.Needs.{needs}
-use Rattle.edit_plan.proofs.offers_negative.Statement.{statement}
-use Rattle.edit_plan.proofs.offers_negative.Tie as tie
+use Rattle.change.proofs.offers_negative.Statement.{statement}
+use Rattle.change.proofs.offers_negative.Tie as tie
 
 enum-told : tie.Need-enum-told
 enum-told c = search needs

@@ -1,7 +1,7 @@
 -- `new_size` meets its contract: a removal brings nothing in.
 use borrow.Author.Needs.{needs}
-use Rattle.edit_plan.proofs.new_size.Statement.{statement}
-use Rattle.edit_plan.proofs.new_size.Tie as tie
+use Rattle.change.proofs.new_size.Statement.{statement}
+use Rattle.change.proofs.new_size.Tie as tie
 
 enum-told : tie.Need-enum-told
 enum-told c = search needs

@@ -3,8 +3,8 @@ use mathlib.Core.Path.{_≡_, ap, _∙_}
 use mir.Syntax.{w32}
 use mir.Val.{toZ, ofZ}
 use borrow.Author.Needs.{needs}
-use Rattle.edit_plan.proofs.slot_at.Statement.{statement}
-use Rattle.edit_plan.proofs.slot_at.Tie as tie
+use Rattle.change.proofs.slot_at.Statement.{statement}
+use Rattle.change.proofs.slot_at.Tie as tie
 
 span-at-requires : tie.Need-span-at-requires
 span-at-requires c κs = search needs

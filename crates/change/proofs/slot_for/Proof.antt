@@ -1,7 +1,7 @@
 -- `slot_for` meets its contract: an append is after the last extension.
 use borrow.Author.Needs.{needs}
-use Rattle.edit_plan.proofs.slot_for.Statement.{statement}
-use Rattle.edit_plan.proofs.slot_for.Tie as tie
+use Rattle.change.proofs.slot_for.Statement.{statement}
+use Rattle.change.proofs.slot_for.Tie as tie
 
 enum-told : tie.Need-enum-told
 enum-told c = search needs

@@ -1,0 +1,64 @@
+-- What an edit of the extension list is, over numbers alone (01-scope.md, "Extensions" and "Refusal numbers", rules 18 to 21): the
+-- size of an extension, what these rules ask, where extensions go out and how many bytes come in.
+use Prim.Native.Nat.{ℕ, _+_, _*_, _/_}
+use mathlib.Core.Bool.{Bool, false, not, _&&_}
+use mathlib.Core.List.{List}
+use lib.Dec.{leb, ltb, eqb}
+use lib.IntN.{ℤ, pos}
+use lib.ListN.{getD}
+use lib.Signed.{ltZ}
+use mir.Syntax.{w32}
+use mir.Val.{ofZ}
+use Rattle.extension.specs.declared.Span.{Span}
+use Rattle.extension.specs.Walk.{extensionLimit, firstPlace}
+use Rattle.extension.specs.Listing.{noSpan}
+use Rattle.change.specs.declared.Change.{Change}
+use Rattle.change.specs.declared.Change.the-variants.{Append, Replace, Remove}
+use Rattle.change.specs.declared.Slot.{Slot}
+
+-- "its size the least multiple of 16 that is at least L + 8" (the law `size-least` says so)
+abbrev pub sizeFor : ℕ → ℕ
+sizeFor n = (n + 23) / 16 * 16
+
+-- rule 18: "no extension with that number (first is 0)", in a list of n
+abbrev pub missingIn : Change → ℕ → Bool
+missingIn Append n = false
+missingIn (Replace k) n = not (ltb k n)
+missingIn (Remove k) n = not (ltb k n)
+
+-- rule 19: "code offered is negative"; a removal offers none
+abbrev pub offersNegative : Change → ℤ → Bool
+offersNegative Append code = ltZ code (pos 0)
+offersNegative (Replace k) code = ltZ code (pos 0)
+offersNegative (Remove k) code = false
+
+-- rule 20 by the number of extensions and the region's end
+abbrev pub entersBytes : Change → ℕ → ℕ → Bool
+entersBytes Append count end = eqb count 0 && ltb firstPlace end
+entersBytes (Replace k) count end = false
+entersBytes (Remove k) count end = false
+
+-- rule 21's "would have 65 extensions", by their number
+abbrev pub tooMany : Change → ℕ → Bool
+tooMany Append count = leb extensionLimit count
+tooMany (Replace k) count = false
+tooMany (Remove k) count = false
+
+-- where extensions go out and how many bytes, by the spans of a list that ends at `end`
+abbrev pub slotAt : List Span → ℕ → Slot
+slotAt spans k = record { at = getD spans k noSpan .start; old = ofZ w32 (getD spans k noSpan .size) }
+
+abbrev pub slotOf : Change → List Span → ℕ → Slot
+slotOf Append spans end = record { at = end; old = 0 }
+slotOf (Replace k) spans end = slotAt spans k
+slotOf (Remove k) spans end = slotAt spans k
+
+-- how many bytes come in, for a payload of n
+abbrev pub newSize : Change → ℕ → ℕ
+newSize Append n = sizeFor n
+newSize (Replace k) n = sizeFor n
+newSize (Remove k) n = 0
+
+-- sizes above this are not told apart: rule 21 refuses them all
+abbrev pub sizeCap : ℕ
+sizeCap = 134217744
