@@ -160,7 +160,7 @@ pub fn extension_in(header: Header, number: usize) -> ExtensionAnswer
         });
     }
     let spans = header.spans;
-    let x = extension::span_at(spans, number);
+    let x = listing::span_at(spans, number);
     ExtensionAnswer {
         refusal: 0,
         place: 0,

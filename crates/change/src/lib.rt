@@ -72,7 +72,7 @@ pub fn is_too_many(change: Change, count: usize) -> bool
 fn slot_at(spans: [Span; LIMIT], k: usize) -> Slot
     ensures { λ r. ⌜ r ≡ slotAt spans k ⌝ }
 {
-    let span = extension::span_at(spans, k);
+    let span = listing::span_at(spans, k);
     Slot {
         at: span.start,
         old: field::bits32(span.size) as usize,

@@ -2,7 +2,6 @@ pub mod Signs
 pub mod Found
 pub mod Regions
 pub mod Walks
-pub mod Filled
 pub mod Pieces
 pub mod Fills
 pub mod Listings

@@ -1,12 +1,10 @@
-// A file's extensions: a walker that moves on one extension at a time, and the list of their spans (01-scope.md,
-// "Extensions", rules 13, 14 and 15). Payload bytes are not read.
+// A file's extensions: a walker that moves on one extension at a time (01-scope.md, "Extensions", rules 13, 14 and 15).
+// Payload bytes are not read. The crate listing lists them all.
 ghost use mathlib.Core.Path.{_≡_};
-ghost use mathlib.Core.List.{[]};
 ghost use Prim.Native.Nat.{_+_, _<_};
-ghost use lib.ListN.{length, getD};
+ghost use lib.ListN.{length};
 ghost use Rattle.refusal.specs.Table.{refusal};
-ghost use Rattle.extension.specs.Walk.{sizeRule, foundBy, found, stepFrom, stepOf, extensionsIn, firstPlace};
-ghost use Rattle.extension.specs.Listing.{noSpan, spansOf, listingOf};
+ghost use Rattle.extension.specs.Walk.{sizeRule, foundBy, found, stepFrom, stepOf, firstPlace};
 use field::Order;
 use refusal::Refusal;
 use refusal::Verdict;
@@ -143,63 +141,5 @@ impl Walker {
         let stop = number::lesser(end, file.len());
         let from = number::lesser(at, stop);
         self.step_over(&file[from..stop])
-    }
-}
-
-// The spans of no extensions.
-pub fn no_spans() -> [Span; LIMIT]
-    ensures { λ r. ⌜ r ≡ spansOf [] ⌝ }
-{
-    [Span {
-        start: 0,
-        size: 0,
-        code: 0,
-    }; LIMIT]
-}
-
-// One of a list's spans; past the array there are none.
-pub fn span_at(spans: [Span; LIMIT], k: usize) -> Span
-    ensures { λ x. ⌜ x ≡ getD spans k noSpan ⌝ }
-{
-    if k < LIMIT {
-        spans[k]
-    } else {
-        Span {
-            start: 0,
-            size: 0,
-            code: 0,
-        }
-    }
-}
-
-// The spans of all extensions of a file whose region ends at `end`, or the first refusal.
-pub fn list(file: &[u8], order: Order, end: usize) -> Listing
-    ensures { λ r. ⌜ r ≡ listingOf (extensionsIn order end (now (file .entry))) ⌝ }
-{
-    let mut walker = Walker::new(order, end);
-    let mut spans = no_spans();
-    loop {
-        let step = walker.step(file);
-        let count = walker.count;
-        match step {
-            Step::Extension(x, next) => {
-                spans[count] = x;
-                walker = next;
-            }
-            Step::End => {
-                return Listing {
-                    verdict: Verdict::Accepted,
-                    count,
-                    spans,
-                };
-            }
-            Step::Halt(r) => {
-                return Listing {
-                    verdict: Verdict::Refused(r),
-                    count: 0,
-                    spans: no_spans(),
-                };
-            }
-        }
     }
 }

@@ -30,12 +30,12 @@ pub fn list_in(file: &[u8], layout: Layout) -> Listing
         let order = layout.order;
         let kind = layout.kind;
         let image = layout.image;
-        extension::list(file, order, rules::region_end(kind, image, file.len()))
+        listing::list(file, order, rules::region_end(kind, image, file.len()))
     } else {
         Listing {
             verdict: Verdict::Accepted,
             count: 0,
-            spans: extension::no_spans(),
+            spans: listing::no_spans(),
         }
     }
 }
@@ -47,7 +47,7 @@ pub fn refused(r: Refusal) -> Reading
     let none = [0u8; 0];
     Reading {
         verdict: Verdict::Refused(r),
-        header: header::parse(&none, Order::Little, Kind::Single, 0, extension::no_spans()),
+        header: header::parse(&none, Order::Little, Kind::Single, 0, listing::no_spans()),
         image: Image {
             offset: 0,
             bytes: 0,

@@ -1,8 +1,8 @@
 -- `no_spans` meets its contract: 64 zero spans, by computation.
 use mathlib.Core.Path.{refl}
 use Rattle.extension.specs.Listing.{spansOf}
-use Rattle.extension.proofs.no_spans.Statement.{statement}
-use Rattle.extension.proofs.no_spans.Tie as tie
+use Rattle.listing.proofs.no_spans.Statement.{statement}
+use Rattle.listing.proofs.no_spans.Tie as tie
 
 returns : tie.Need-returns
 unfolding spansOf

@@ -5,13 +5,13 @@ use mathlib.Core.Path.{_≡_, sym, _∙_}
 use mathlib.Core.List.{[]}
 use native.Mathlib.Omega.{arith}
 use borrow.Author.Needs.{needs}
 use Rattle.extension.specs.declared.Step.the-variants.{Extension}
 use Rattle.extension.specs.Walk.{extensionLimit, stepOf, extensionsIn}
 use Rattle.extension.specs.Listing.{listingOf}
 use Rattle.extension.proofs.Walks.{before}
-use Rattle.extension.proofs.Filled.{after-none, Filled, fill-room, fill-turn, fill-end, fill-halt}
-use Rattle.extension.proofs.list.Statement.{statement}
-use Rattle.extension.proofs.list.Tie as tie
+use Rattle.listing.proofs.Filled.{after-none, Filled, fill-room, fill-turn, fill-end, fill-halt}
+use Rattle.listing.proofs.list.Statement.{statement}
+use Rattle.listing.proofs.list.Tie as tie
 
 abbrev Inv-loop : tie.InvT-loop
 Inv-loop file end walker₀ spans₀ walker spans = Filled (extensionsIn (walker₀ .order) (walker₀ .end) file) file walker spans

@@ -2,10 +2,10 @@
 use mathlib.Core.Path.{sym}
 use native.Mathlib.Omega.{arith}
 use lib.ListN.{List·getD-eq-default}
 use Rattle.extension.specs.Listing.{noSpan}
 use borrow.Author.Needs.{needs}
-use Rattle.extension.proofs.span_at.Statement.{statement}
-use Rattle.extension.proofs.span_at.Tie as tie
+use Rattle.listing.proofs.span_at.Statement.{statement}
+use Rattle.listing.proofs.span_at.Tie as tie
 
 mul-result : tie.Need-mul-result
 mul-result c = search needs
