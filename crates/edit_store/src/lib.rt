@@ -23,8 +23,8 @@ fn put_extension(buf: &mut [u8], at: usize, order: Order, code: i32, payload: &[
 {
     let n = payload.len();
     let size = (n + 23) / 16 * 16;
-    field::put_u32(buf, at, order, size as u32);
-    field::put_i32(buf, at + 4, order, code);
+    store::put_u32(buf, at, order, size as u32);
+    store::put_i32(buf, at + 4, order, code);
     buffer::copy_in(buf, at + 8, payload);
     buffer::clear(buf, at + 8 + n, size - (n + 8));
 }
@@ -49,9 +49,9 @@ pub fn put_extender(buf: &mut [u8], end: usize)
     ensures { λ _. ⌜ now (buf .exit) ≡ put (now (buf .entry)) 348 (extenderBytes end) ⌝ }
 {
     if FIRST < end {
-        field::put_u32(buf, 348, Order::Little, 1);
+        store::put_u32(buf, 348, Order::Little, 1);
     } else {
-        field::put_u32(buf, 348, Order::Little, 0);
+        store::put_u32(buf, 348, Order::Little, 0);
     }
 }
 
@@ -61,7 +61,7 @@ pub fn put_offset(buf: &mut [u8], kind: Kind, order: Order, end: usize)
     ensures { λ _. ⌜ now (buf .exit) ≡ headFor kind order end (now (buf .entry)) ⌝ }
 {
     match kind {
-        Kind::Single => field::put_u32(buf, 108, order, offset::encode(end as u32)),
+        Kind::Single => store::put_u32(buf, 108, order, offset::encode(end as u32)),
         Kind::Pair => {}
     }
 }

@@ -21,35 +21,35 @@ fn put_text10(buf: &mut [u8], at: usize, text: [u8; 10])
     requires { ⌜ at < 4294967000 ⌝ }
     ensures { λ _. ⌜ now (buf .exit) ≡ sets (now (buf .entry)) at (padded 10 text) ⌝ }
 {
-    field::put_bytes(buf, at, 10, &text);
+    store::put_bytes(buf, at, 10, &text);
 }
 
 fn put_text16(buf: &mut [u8], at: usize, text: [u8; 16])
     requires { ⌜ at < 4294967000 ⌝ }
     ensures { λ _. ⌜ now (buf .exit) ≡ sets (now (buf .entry)) at (padded 16 text) ⌝ }
 {
-    field::put_bytes(buf, at, 16, &text);
+    store::put_bytes(buf, at, 16, &text);
 }
 
 fn put_text18(buf: &mut [u8], at: usize, text: [u8; 18])
     requires { ⌜ at < 4294967000 ⌝ }
     ensures { λ _. ⌜ now (buf .exit) ≡ sets (now (buf .entry)) at (padded 18 text) ⌝ }
 {
-    field::put_bytes(buf, at, 18, &text);
+    store::put_bytes(buf, at, 18, &text);
 }
 
 fn put_text24(buf: &mut [u8], at: usize, text: [u8; 24])
     requires { ⌜ at < 4294967000 ⌝ }
     ensures { λ _. ⌜ now (buf .exit) ≡ sets (now (buf .entry)) at (padded 24 text) ⌝ }
 {
-    field::put_bytes(buf, at, 24, &text);
+    store::put_bytes(buf, at, 24, &text);
 }
 
 fn put_text80(buf: &mut [u8], at: usize, text: [u8; 80])
     requires { ⌜ at < 4294967000 ⌝ }
     ensures { λ _. ⌜ now (buf .exit) ≡ sets (now (buf .entry)) at (padded 80 text) ⌝ }
 {
-    field::put_bytes(buf, at, 80, &text);
+    store::put_bytes(buf, at, 80, &text);
 }
 
 // The numbers of a field that is an array.
@@ -57,48 +57,48 @@ fn put_u32x4(buf: &mut [u8], at: usize, order: Order, numbers: [u32; 4])
     requires { ⌜ at < 4294967000 ⌝ }
     ensures { λ _. ⌜ now (buf .exit) ≡ sets (now (buf .entry)) at (u32sBytes order 4 numbers) ⌝ }
 {
-    field::put_u32s(buf, at, order, 4, &numbers);
+    store::put_u32s(buf, at, order, 4, &numbers);
 }
 
 fn put_u32x8(buf: &mut [u8], at: usize, order: Order, numbers: [u32; 8])
     requires { ⌜ at < 4294967000 ⌝ }
     ensures { λ _. ⌜ now (buf .exit) ≡ sets (now (buf .entry)) at (u32sBytes order 8 numbers) ⌝ }
 {
-    field::put_u32s(buf, at, order, 8, &numbers);
+    store::put_u32s(buf, at, order, 8, &numbers);
 }
 
 fn put_i16x8(buf: &mut [u8], at: usize, order: Order, numbers: [i16; 8])
     requires { ⌜ at < 4294967000 ⌝ }
     ensures { λ _. ⌜ now (buf .exit) ≡ sets (now (buf .entry)) at (i16sBytes order 8 numbers) ⌝ }
 {
-    field::put_i16s(buf, at, order, 8, &numbers);
+    store::put_i16s(buf, at, order, 8, &numbers);
 }
 
 // The groups, written in file order.
 fn write_key(g: Key, order: Order, buf: &mut [u8])
     ensures { λ _. ⌜ now (buf .exit) ≡ sets (now (buf .entry)) 0 (keyBytes order g) ⌝ }
 {
-    field::put_u32(buf, 0, order, 348);
+    magic::put_size(buf, order);
     let data_type = g.data_type;
     put_text10(buf, 4, data_type);
     let db_name = g.db_name;
     put_text18(buf, 14, db_name);
-    field::put_i32(buf, 32, order, g.extents);
-    field::put_i16(buf, 36, order, g.session_error);
-    field::put_byte(buf, 38, g.regular);
-    field::put_byte(buf, 39, g.dim_info);
+    store::put_i32(buf, 32, order, g.extents);
+    store::put_i16(buf, 36, order, g.session_error);
+    store::put_byte(buf, 38, g.regular);
+    store::put_byte(buf, 39, g.dim_info);
 }
 
 fn write_intent(g: Intent, order: Order, buf: &mut [u8])
     ensures { λ _. ⌜ now (buf .exit) ≡ sets (now (buf .entry)) 56 (intentBytes order g) ⌝ }
 {
-    field::put_u32(buf, 56, order, g.intent_p1);
-    field::put_u32(buf, 60, order, g.intent_p2);
-    field::put_u32(buf, 64, order, g.intent_p3);
-    field::put_i16(buf, 68, order, g.intent_code);
-    field::put_i16(buf, 70, order, g.datatype);
-    field::put_i16(buf, 72, order, g.bitpix);
-    field::put_i16(buf, 74, order, g.slice_start);
+    store::put_u32(buf, 56, order, g.intent_p1);
+    store::put_u32(buf, 60, order, g.intent_p2);
+    store::put_u32(buf, 64, order, g.intent_p3);
+    store::put_i16(buf, 68, order, g.intent_code);
+    store::put_i16(buf, 70, order, g.datatype);
+    store::put_i16(buf, 72, order, g.bitpix);
+    store::put_i16(buf, 74, order, g.slice_start);
 }
 
 fn write_scale(g: Scale, order: Order, buf: &mut [u8])
@@ -106,23 +106,23 @@ fn write_scale(g: Scale, order: Order, buf: &mut [u8])
 {
     let pixdim = g.pixdim;
     put_u32x8(buf, 76, order, pixdim);
-    field::put_u32(buf, 108, order, g.vox_offset);
-    field::put_u32(buf, 112, order, g.scl_slope);
-    field::put_u32(buf, 116, order, g.scl_inter);
-    field::put_i16(buf, 120, order, g.slice_end);
-    field::put_byte(buf, 122, g.slice_code);
-    field::put_byte(buf, 123, g.xyzt_units);
+    store::put_u32(buf, 108, order, g.vox_offset);
+    store::put_u32(buf, 112, order, g.scl_slope);
+    store::put_u32(buf, 116, order, g.scl_inter);
+    store::put_i16(buf, 120, order, g.slice_end);
+    store::put_byte(buf, 122, g.slice_code);
+    store::put_byte(buf, 123, g.xyzt_units);
 }
 
 fn write_display(g: Display, order: Order, buf: &mut [u8])
     ensures { λ _. ⌜ now (buf .exit) ≡ sets (now (buf .entry)) 124 (displayBytes order g) ⌝ }
 {
-    field::put_u32(buf, 124, order, g.cal_max);
-    field::put_u32(buf, 128, order, g.cal_min);
-    field::put_u32(buf, 132, order, g.slice_duration);
-    field::put_u32(buf, 136, order, g.toffset);
-    field::put_i32(buf, 140, order, g.glmax);
-    field::put_i32(buf, 144, order, g.glmin);
+    store::put_u32(buf, 124, order, g.cal_max);
+    store::put_u32(buf, 128, order, g.cal_min);
+    store::put_u32(buf, 132, order, g.slice_duration);
+    store::put_u32(buf, 136, order, g.toffset);
+    store::put_i32(buf, 140, order, g.glmax);
+    store::put_i32(buf, 144, order, g.glmin);
     let descrip = g.descrip;
     put_text80(buf, 148, descrip);
     let aux_file = g.aux_file;
@@ -132,14 +132,14 @@ fn write_display(g: Display, order: Order, buf: &mut [u8])
 fn write_quatern(g: Quatern, order: Order, buf: &mut [u8])
     ensures { λ _. ⌜ now (buf .exit) ≡ sets (now (buf .entry)) 252 (quaternBytes order g) ⌝ }
 {
-    field::put_i16(buf, 252, order, g.qform_code);
-    field::put_i16(buf, 254, order, g.sform_code);
-    field::put_u32(buf, 256, order, g.quatern_b);
-    field::put_u32(buf, 260, order, g.quatern_c);
-    field::put_u32(buf, 264, order, g.quatern_d);
-    field::put_u32(buf, 268, order, g.qoffset_x);
-    field::put_u32(buf, 272, order, g.qoffset_y);
-    field::put_u32(buf, 276, order, g.qoffset_z);
+    store::put_i16(buf, 252, order, g.qform_code);
+    store::put_i16(buf, 254, order, g.sform_code);
+    store::put_u32(buf, 256, order, g.quatern_b);
+    store::put_u32(buf, 260, order, g.quatern_c);
+    store::put_u32(buf, 264, order, g.quatern_d);
+    store::put_u32(buf, 268, order, g.qoffset_x);
+    store::put_u32(buf, 272, order, g.qoffset_y);
+    store::put_u32(buf, 276, order, g.qoffset_z);
 }
 
 fn write_rows(g: Rows, order: Order, kind: Kind, buf: &mut [u8])

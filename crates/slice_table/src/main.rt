@@ -31,33 +31,33 @@ fn say_float(x: f32)
 
 // A pair's header file with three axes, a byte a voxel.
 fn put_shape(file: &mut [u8], a: i16, b: i16, c: i16) {
-    field::put_i32(file, 0, Order::Little, 348);
-    field::put_i16(file, 40, Order::Little, 3);
-    field::put_i16(file, 42, Order::Little, a);
-    field::put_i16(file, 44, Order::Little, b);
-    field::put_i16(file, 46, Order::Little, c);
-    field::put_i16(file, 70, Order::Little, 2);
-    field::put_i16(file, 72, Order::Little, 8);
-    field::put_u32(file, 344, Order::Little, 0x0031_696e);
+    store::put_i32(file, 0, Order::Little, 348);
+    store::put_i16(file, 40, Order::Little, 3);
+    store::put_i16(file, 42, Order::Little, a);
+    store::put_i16(file, 44, Order::Little, b);
+    store::put_i16(file, 46, Order::Little, c);
+    store::put_i16(file, 70, Order::Little, 2);
+    store::put_i16(file, 72, Order::Little, 8);
+    store::put_u32(file, 344, Order::Little, 0x0031_696e);
 }
 
 // Slices along the third axis, each of which takes 0.1.
 fn put_timing(file: &mut [u8], code: u8, start: i16, end: i16) {
-    field::put_byte(file, 39, 0x30);
-    field::put_i16(file, 74, Order::Little, start);
-    field::put_i16(file, 120, Order::Little, end);
-    field::put_byte(file, 122, code);
-    field::put_u32(file, 132, Order::Little, 0x3dcc_cccd);
+    store::put_byte(file, 39, 0x30);
+    store::put_i16(file, 74, Order::Little, start);
+    store::put_i16(file, 120, Order::Little, end);
+    store::put_byte(file, 122, code);
+    store::put_u32(file, 132, Order::Little, 0x3dcc_cccd);
 }
 
 // A row of the affine map, by the bit patterns of its numbers.
 fn put_row(file: &mut [u8], at: usize, a: u32, b: u32, c: u32, d: u32)
     requires { ⌜ at < 4294967000 ⌝ }
 {
-    field::put_u32(file, at, Order::Little, a);
-    field::put_u32(file, at + 4, Order::Little, b);
-    field::put_u32(file, at + 8, Order::Little, c);
-    field::put_u32(file, at + 12, Order::Little, d);
+    store::put_u32(file, at, Order::Little, a);
+    store::put_u32(file, at + 4, Order::Little, b);
+    store::put_u32(file, at + 8, Order::Little, c);
+    store::put_u32(file, at + 12, Order::Little, d);
 }
 
 fn print_refusal(number: u64, place: usize) {
@@ -174,7 +174,7 @@ fn print_position(file: &[u8], i: u64, j: u64, k: u64) {
 fn print_positions(sform_code: i16) {
     let mut file = [0u8; 348];
     put_shape(&mut file, 186, 207, 60);
-    field::put_i16(&mut file, 254, Order::Little, sform_code);
+    store::put_i16(&mut file, 254, Order::Little, sform_code);
     put_row(
         &mut file,
         280,

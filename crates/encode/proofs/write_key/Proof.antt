@@ -23,8 +23,8 @@ extents-same c = search needs
 session-error-same : (c : tie.After-struct-told) → toZ w16 (ofZ w16 (g c .«session_error»)) ≡ g c .«session_error»
 session-error-same c = search needs
 
-put-u32-requires : tie.Need-put-u32-requires
-put-u32-requires c κs = search needs
+put-size-requires : tie.Need-put-size-requires
+put-size-requires c κs = search needs
 
 put-text10-requires : tie.Need-put-text10-requires
 put-text10-requires c κs = search needs
@@ -54,7 +54,7 @@ same-length c =
     let c2 = c3 .before .before .before .before .before in
     let c1 = c2 .before .before .before .before .before in
     c7 .put-byte2 .kept .0 ∙ c6 .put-byte .kept .0 ∙ c5 .put-i16 .kept .0 ∙ c4 .put-i32 .kept .0
-    ∙ c3 .put-text18 .kept .0 ∙ c2 .put-text10 .kept .0 ∙ c1 .put-u32 .kept .0
+    ∙ c3 .put-text18 .kept .0 ∙ c2 .put-text10 .kept .0 ∙ c1 .put-size .kept .0
 
 returns : tie.Need-returns
 unfolding keyBytes
@@ -73,7 +73,7 @@ returns c =
       c4 .put-i32 .ensures,
       c3 .put-text18 .ensures,
       c2 .put-text10 .ensures,
-      c1 .put-u32 .ensures,
+      c1 .put-size .ensures,
     )
     (simp (sets-split, length-bytesOf, length-padded, extents-same (c4 .before), session-error-same (c4 .before)))
 
@@ -81,7 +81,7 @@ pub write-key-spec : {M : Type 1} → statement M
 write-key-spec =
     tie.close
     (tie.spec
-    put-u32-requires
+    put-size-requires
     put-text10-requires
     put-text18-requires
     put-i32-requires

@@ -2,8 +2,8 @@
 use mir.Syntax.{w32}
 use mir.ValLaws.{toZ-ofZ}
 use borrow.Author.Needs.{needs}
-use Rattle.field.proofs.put_i32.Statement.{statement}
-use Rattle.field.proofs.put_i32.Tie as tie
+use Rattle.store.proofs.put_i32.Statement.{statement}
+use Rattle.store.proofs.put_i32.Tie as tie
 
 bits32-requires : tie.Need-bits32-requires
 bits32-requires c κs = search needs

@@ -4,8 +4,8 @@ use lib.IntN.{pos}
 use mathlib.Core.Path.{sym}
 use lib.ListN.{List·getD-eq-default}
 use borrow.Author.Needs.{needs}
-use Rattle.field.proofs.i16_of.Statement.{statement}
-use Rattle.field.proofs.i16_of.Tie as tie
+use Rattle.store.proofs.i16_of.Statement.{statement}
+use Rattle.store.proofs.i16_of.Tie as tie
 
 mul-result : tie.Need-mul-result
 mul-result c = search needs

@@ -3,8 +3,8 @@ use denote.Ref.{now}
 use mathlib.Core.Path.{sym}
 use lib.ListN.{List·getD-eq-default}
 use borrow.Author.Needs.{needs}
-use Rattle.field.proofs.u32_of.Statement.{statement}
-use Rattle.field.proofs.u32_of.Tie as tie
+use Rattle.store.proofs.u32_of.Statement.{statement}
+use Rattle.store.proofs.u32_of.Tie as tie
 
 mul-result : tie.Need-mul-result
 mul-result c = search needs

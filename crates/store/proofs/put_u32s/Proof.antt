@@ -6,10 +6,10 @@ use native.Mathlib.Omega.{arith}
 use borrow.Author.Needs.{needs}
 use lib.ListN.{length, getD}
 use lib.Seq.{sets}
 use Rattle.field.specs.Numbers.{tabulate, joined, bytesOf, padded, u32sBytes}
 use Rattle.field.proofs.Stores.{run-turn}
-use Rattle.field.proofs.put_u32s.Statement.{statement}
-use Rattle.field.proofs.put_u32s.Tie as tie
+use Rattle.store.proofs.put_u32s.Statement.{statement}
+use Rattle.store.proofs.put_u32s.Tie as tie
 
 abbrev Inv-loop : tie.InvT-loop
 Inv-loop buf₀ at order n src i₀ buf i =

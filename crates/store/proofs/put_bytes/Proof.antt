@@ -5,10 +5,10 @@ use native.Mathlib.Omega.{arith}
 use borrow.Author.Needs.{needs}
 use lib.ListN.{length, getD}
 use lib.Seq.{sets}
 use Rattle.field.specs.Numbers.{tabulate, padded}
 use Rattle.field.proofs.Stores.{byte-turn}
-use Rattle.field.proofs.put_bytes.Statement.{statement}
-use Rattle.field.proofs.put_bytes.Tie as tie
+use Rattle.store.proofs.put_bytes.Statement.{statement}
+use Rattle.store.proofs.put_bytes.Tie as tie
 
 abbrev Inv-loop : tie.InvT-loop
 Inv-loop buf₀ at n src i₀ buf i = (i ≤ n) × (length buf ≡ length buf₀) × (buf ≡ sets buf₀ at (tabulate (λ k. getD src k 0) i))

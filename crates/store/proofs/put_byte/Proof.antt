@@ -3,8 +3,8 @@ use denote.Ref.{now}
 use mathlib.Core.Path.{sym}
 use lib.Seq.{set-out}
 use borrow.Author.Needs.{needs}
-use Rattle.field.proofs.put_byte.Statement.{statement}
-use Rattle.field.proofs.put_byte.Tie as tie
+use Rattle.store.proofs.put_byte.Statement.{statement}
+use Rattle.store.proofs.put_byte.Tie as tie
 
 slice-write-buf : tie.Need-slice-write-buf
 slice-write-buf c = search needs

@@ -10,10 +10,10 @@ use lib.Seq.{sets}
 use mir.Syntax.{w16}
 use mir.Val.{ofZ}
 use mir.ValLaws.{toZ-ofZ}
 use Rattle.field.specs.Numbers.{tabulate, joined, bytesOf, padded, i16sBytes}
 use Rattle.field.proofs.Stores.{run-turn}
-use Rattle.field.proofs.put_i16s.Statement.{statement}
-use Rattle.field.proofs.put_i16s.Tie as tie
+use Rattle.store.proofs.put_i16s.Statement.{statement}
+use Rattle.store.proofs.put_i16s.Tie as tie
 
 abbrev Inv-loop : tie.InvT-loop
 Inv-loop buf₀ at order n src i₀ buf i =

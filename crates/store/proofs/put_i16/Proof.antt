@@ -2,8 +2,8 @@
 use mir.Syntax.{w16}
 use mir.ValLaws.{toZ-ofZ}
 use borrow.Author.Needs.{needs}
-use Rattle.field.proofs.put_i16.Statement.{statement}
-use Rattle.field.proofs.put_i16.Tie as tie
+use Rattle.store.proofs.put_i16.Statement.{statement}
+use Rattle.store.proofs.put_i16.Tie as tie
 
 bits16-requires : tie.Need-bits16-requires
 bits16-requires c κs = search needs
