@@ -27,9 +27,10 @@ use Rattle.reader.proofs.Answers.{judgement-fits, judgement-breaks}
 use Rattle.reader.proofs.File.{AcceptedFile, judged-file}
 use Rattle.units.specs.Units.{turnedAt}
 use Rattle.units.specs.Runs.{turnRuns, turnRunsAt, headerRuns}
-use Rattle.byteswap.specs.Swap.{unitIn, unlessCut, extensionRuns, swapList, answerBy, turnedFile, turnedImage}
-use Rattle.byteswap.specs.Swap.{swapAnswer, swappedFile, swappedImage, Placed, Listed}
-use Rattle.byteswap.proofs.Turning.{placed}
+use Rattle.turning.specs.Turn.{unitIn, extensionRuns, Placed}
+use Rattle.turning.proofs.Turning.{placed}
+use Rattle.byteswap.specs.Swap.{unlessCut, swapList, answerBy, turnedFile, turnedImage}
+use Rattle.byteswap.specs.Swap.{swapAnswer, swappedFile, swappedImage, Listed}
 use Rattle.byteswap.proofs.Whole.{placeOf, unitFor, runsOf, imageRunsOf, unit-some, single-turned, pair-turned, image-single, image-pair}
 
 -- an answer, and what is left in the two buffers: those of the swap

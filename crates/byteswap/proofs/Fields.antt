@@ -23,7 +23,7 @@ use Rattle.reader.proofs.Theorems.{never-both}
 use Rattle.units.specs.Runs.{Run, turnRuns, headerRuns}
 use Rattle.units.proofs.Runs.{spanOf}
 use Rattle.units.proofs.Places.{unitsAt}
-use Rattle.byteswap.specs.Swap.{unitOf, unitIn}
+use Rattle.turning.specs.Turn.{unitOf, unitIn}
 use Rattle.byteswap.proofs.Places.{u32s-same, i16s-same, text-same}
 
 -- dim[0] is in 1..7 in one byte order alone; where the two tests are exchanged, that is the other one

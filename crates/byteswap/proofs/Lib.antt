@@ -1,5 +1,4 @@
 -- The laws that the functions' proofs rest on, and the theorems.
-pub mod Turning
 pub mod Whole
 pub mod Answers
 pub mod Places

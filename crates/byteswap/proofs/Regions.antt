@@ -17,7 +17,7 @@ use Rattle.extension.specs.Pieces.{pieces, Complete, AllComplete, none, one, sp
 use Rattle.extension.proofs.Pieces.{walk-join, length-spansFrom}
 use Rattle.units.specs.Runs.{Run, run, turnRuns}
 use Rattle.units.proofs.Runs.{spanOf, length-turnRuns, runs-append}
-use Rattle.byteswap.specs.Swap.{extensionRuns}
+use Rattle.turning.specs.Turn.{extensionRuns}
 use Rattle.byteswap.proofs.Places.{u32s-same}
 
 -- ---- One extension

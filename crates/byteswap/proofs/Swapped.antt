@@ -30,9 +30,10 @@ use Rattle.units.specs.Runs.{Run, run, turnRuns, headerRuns}
 use Rattle.units.proofs.Units.{turned-bytes}
 use Rattle.units.proofs.Runs.{spanOf, length-turnRuns, runs-append, runs-own, runs-behind, runs-middle, header-span}
 use Rattle.units.proofs.Places.{unitsAt}
-use Rattle.byteswap.specs.Swap.{unitIn, extensionRuns, regionRuns, ownImage, fileRuns}
+use Rattle.turning.specs.Turn.{unitIn, extensionRuns}
+use Rattle.turning.proofs.Turning.{fills-span}
+use Rattle.byteswap.specs.Swap.{regionRuns, ownImage, fileRuns}
 use Rattle.byteswap.specs.Other.{readInOther}
-use Rattle.byteswap.proofs.Turning.{fills-span}
 use Rattle.byteswap.proofs.Whole.{placeOf, unitFor, room}
 use Rattle.byteswap.proofs.Places.{text-same}
 use Rattle.byteswap.proofs.Fields.{magic-same, kind-same, holds-same, order-other, size-same, shape-same, unit-same, header-same}

@@ -25,8 +25,9 @@ use Rattle.units.specs.Units.{turnedAt}
 use Rattle.units.specs.Runs.{Run, run, turnRuns, turnRunsAt, headerRuns}
 use Rattle.units.proofs.Runs.{spanOf, span-append, header-span}
 use Rattle.units.proofs.Chain.{Chain, chain-runs, chain-next, chain-stay, chain-done}
-use Rattle.byteswap.specs.Swap.{unitOf, unitIn, extensionRuns, regionRuns, imageRuns, ownImage, fileRuns, imageFileRuns}
-use Rattle.byteswap.proofs.Turning.{fills-span}
+use Rattle.turning.specs.Turn.{unitOf, unitIn, extensionRuns}
+use Rattle.turning.proofs.Turning.{fills-span}
+use Rattle.byteswap.specs.Swap.{regionRuns, imageRuns, ownImage, fileRuns, imageFileRuns}
 
 -- ---- A file's unit and runs
 

@@ -1,26 +1,19 @@
 -- Swapping the byte order of a file in place. 01-scope.md, "Voxels and byte order": "Swapping turns round each 2- or 4-byte header
 -- field, unused numbers included, each extension's size and code, and each swap unit of the image. All else stays: text, private
--- bytes, payloads, an image file's front, bytes after the image." So a file is one list of runs (crate units); a run of width 1 stays,
--- and so does what follows the last run.
-use Prim.Native.Nat.{ℕ, _-_, _/_, _≤_, _<_}
+-- bytes, payloads, an image file's front, bytes after the image." So a file is one list of runs (crate units); a run of width 1
+-- stays, and so does what follows the last run. The unit of a file and the runs of its extensions are those of crate turning.
+use Prim.Native.Nat.{ℕ, _-_, _/_}
 use mathlib.Core.Path.{_≡_}
 use mathlib.Core.Bool.{Bool, cond}
 use mathlib.Core.List.{List, [], _∷_, _++_}
-use lib.IntN.{natAbs}
 use lib.ListN.{length}
-use Rattle.field.specs.declared.Order.{Order}
-use Rattle.field.specs.Numbers.{i16At}
 use Rattle.refusal.specs.declared.Verdict.{Verdict}
 use Rattle.refusal.specs.declared.Verdict.the-variants.{Accepted, Refused}
 use Rattle.refusal.specs.Table.{refusal}
-use Rattle.datatype.specs.declared.Datatype.{Datatype}
-use Rattle.datatype.specs.declared.Datatype.the-variants.{Known, Unknown}
-use Rattle.datatype.specs.Datatypes.{datatypeOf}
 use Rattle.extension.specs.declared.Span.{Span}
 use Rattle.extension.specs.declared.Listing.{Listing}
-use Rattle.extension.specs.Walk.{Walked, listed, stopped, firstPlace}
+use Rattle.extension.specs.Walk.{Walked, listed, stopped}
 use Rattle.extension.specs.Listing.{listingOf}
-use Rattle.extension.specs.Fills.{Fills}
 use Rattle.header.specs.declared.Kind.{Kind}
 use Rattle.header.specs.declared.Kind.the-variants.{Single, Pair}
 use Rattle.rules.specs.declared.Image.{Image}
@@ -30,22 +23,9 @@ use Rattle.layout.specs.declared.Checked.the-variants.{Fits}
 use Rattle.layout.specs.File.{layoutOf, checkedOf}
 use Rattle.reader.specs.Reading.{extensionsOf, judgement}
 use Rattle.units.specs.Runs.{Run, run, turnRuns, headerRuns}
-
--- the swap unit of a datatype; one that the table lacks is refused before anything is turned (rule 6)
-abbrev pub unitOf : Datatype → ℕ
-unitOf (Known t) = t .unit
-unitOf Unknown = 1
-
--- the swap unit of a file: that of its datatype, whatever its bitpix
-unfoldable pub unitIn : Order → List ℕ → ℕ
-unitIn order s = unitOf (datatypeOf (i16At order s 70))
+use Rattle.turning.specs.Turn.{unitIn, extensionRuns}
 
 -- ---- What turns round
-
--- "each extension's size and code"; its payload stays
-abbrev pub extensionRuns : List Span → List Run
-extensionRuns [] = []
-extensionRuns (x ∷ xs) = run 4 2 ∷ run 1 (natAbs (x .size) - 8) ∷ extensionRuns xs
 
 -- from the header's end to the end of the extension region. With no extensions all of it stays, the extender and private bytes;
 -- else the extender stays, and the extensions fill the rest.
@@ -110,9 +90,3 @@ pub record Listed (s : List ℕ) (layout : Layout) (listing : Listing) : Type 0 
   pub fits : checkedOf s ≡ Fits layout
   pub lists : listing ≡ listingOf (extensionsOf layout s)
   pub accepted : listing .verdict ≡ Accepted
-
--- spans that stand one after the other from 352 on, in a file of `len` bytes
-pub record Placed (xs : List Span) (len : ℕ) : Type 0 where
-  pub end : ℕ
-  pub fills : Fills firstPlace end xs
-  pub room : 0 < length xs → end ≤ len

@@ -29,7 +29,8 @@ use Rattle.voxel.proofs.Sized.{Formed, record-formed}
 use Rattle.voxel.proofs.Locating.{Found}
 use Rattle.by_file.specs.Files.{locatedOf, voxelOf}
 use Rattle.by_file.proofs.Voxels.{located-both, file-found, voxel-in-image, voxel-bytes-are, voxel-length, refused-empty}
-use Rattle.byteswap.specs.Swap.{unitIn, swapAnswer, swappedFile, swappedImage}
+use Rattle.turning.specs.Turn.{unitIn}
+use Rattle.byteswap.specs.Swap.{swapAnswer, swappedFile, swappedImage}
 use Rattle.byteswap.specs.Other.{readInOther}
 use Rattle.byteswap.proofs.Whole.{unit-known}
 use Rattle.byteswap.proofs.Theorems.{swap-lengths, swap-reads, swap-voxel}

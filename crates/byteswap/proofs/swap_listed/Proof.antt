@@ -4,7 +4,7 @@ use Prim.Native.Nat.{ℕ}
 use mathlib.Core.Path.{sym, _∙_, subst}
 use native.Mathlib.Omega.{arith}
 use lib.ListN.{take}
-use Rattle.byteswap.specs.Swap.{Placed}
+use Rattle.turning.specs.Turn.{Placed}
 use Rattle.byteswap.proofs.Answers.{file, listed-placed, listed-unit, single-room, pair-room, swaps-cut, swaps-single, swaps-pair}
 use borrow.Author.Needs.{needs}
 use Rattle.byteswap.proofs.swap_listed.Statement.{statement}

@@ -16,7 +16,7 @@ use Rattle.units.specs.Runs.{run, turnRuns, turnRunsAt}
 use Rattle.units.proofs.Units.{length-turnedAt}
 use Rattle.units.proofs.Runs.{spanOf}
 use Rattle.units.proofs.Chain.{Chain, chain-next, chain-stay}
-use Rattle.byteswap.specs.Swap.{extensionRuns, Placed}
+use Rattle.turning.specs.Turn.{extensionRuns, Placed}
 
 -- the runs of extensions span what the extensions fill
 pub fills-span : {at end : ℕ} {xs : List Span} → Fills at end xs → at + spanOf (extensionRuns xs) ≡ end

@@ -2,8 +2,8 @@
 use native.Mathlib.Omega.{arith}
 use native.Mathlib.Nat.{div-mul-le-self}
 use borrow.Author.Needs.{needs}
-use Rattle.byteswap.proofs.turn_image.Statement.{statement}
-use Rattle.byteswap.proofs.turn_image.Tie as tie
+use Rattle.turning.proofs.turn_image.Statement.{statement}
+use Rattle.turning.proofs.turn_image.Tie as tie
 
 div-count : tie.Need-div-count
 div-count c = search needs

@@ -4,12 +4,12 @@ use mir.Syntax.{w16}
 use mir.Val.{toZ, ofZ}
 use mir.ValLaws.{toZ-ofZ}
 use denote.Ref.{now}
-use Rattle.byteswap.specs.Swap.{unitOf, unitIn}
+use Rattle.turning.specs.Turn.{unitOf, unitIn}
 use Rattle.datatype.specs.Datatypes.{datatypeOf}
 use Rattle.field.specs.Numbers.{i16At}
 use borrow.Author.Needs.{needs}
-use Rattle.byteswap.proofs.unit_in.Statement.{statement}
-use Rattle.byteswap.proofs.unit_in.Tie as tie
+use Rattle.turning.proofs.unit_in.Statement.{statement}
+use Rattle.turning.proofs.unit_in.Tie as tie
 
 read-i16-requires : tie.Need-read-i16-requires
 read-i16-requires c κs = search needs

@@ -1,5 +1,5 @@
--- `turn_list` meets its contract. The invariant: the extensions that are left, turned round, come to what the whole was to be at the
--- start (proofs/Turning.antt).
+-- `turn_list` meets its contract. The invariant: the extensions that are left, turned round, come to what the whole was to be at
+-- the start (proofs/Turning.antt).
 use Prim.Native.Nat.{_+_, _-_, _≤_, _<_}
 use mathlib.Core.Path.{_≡_, refl, _∙_}
 use native.Mathlib.Omega.{arith}
@@ -11,10 +11,10 @@ use Rattle.extension.specs.declared.Span.{Span}
 use Rattle.extension.specs.Listing.{noSpan}
 use Rattle.extension.specs.Walk.{firstPlace}
 use Rattle.units.specs.Runs.{turnRunsAt}
-use Rattle.byteswap.specs.Swap.{extensionRuns}
-use Rattle.byteswap.proofs.Turning.{Turning, turn-room, turn-next, turn-done, left-at, drop-all}
-use Rattle.byteswap.proofs.turn_list.Statement.{statement}
-use Rattle.byteswap.proofs.turn_list.Tie as tie
+use Rattle.turning.specs.Turn.{extensionRuns}
+use Rattle.turning.proofs.Turning.{Turning, turn-room, turn-next, turn-done, left-at, drop-all}
+use Rattle.turning.proofs.turn_list.Statement.{statement}
+use Rattle.turning.proofs.turn_list.Tie as tie
 
 abbrev Inv-loop : tie.InvT-loop
 Inv-loop file₀ count spans k₀ file k =

@@ -1,0 +1,48 @@
+// What a swap turns round beside the header: the size and code of each extension, and the units of the image
+// (01-scope.md, "Voxels and byte order"). The list and the place of the image were read before; no file is judged here.
+ghost use mathlib.Core.Path.{_≡_};
+ghost use Prim.Native.Nat.{_+_, _/_, _≤_};
+ghost use lib.ListN.{length, take};
+ghost use Rattle.extension.specs.Walk.{extensionLimit, firstPlace};
+ghost use Rattle.units.specs.Units.{turnedAt};
+ghost use Rattle.units.specs.Runs.{turnRunsAt};
+ghost use Rattle.turning.specs.Turn.{unitIn, extensionRuns, Placed};
+use datatype::Datatype;
+use extension::LIMIT;
+use extension::Span;
+use field::Order;
+use rules::Image;
+
+// The swap unit of a file: that of its datatype.
+pub fn unit_in(file: &[u8], order: Order) -> usize
+    ensures { λ r. ⌜ r ≡ unitIn order (now (file .entry)) ⌝ }
+{
+    let datatype = datatype::datatype_of(field::read_i16(file, 70, order));
+    match datatype {
+        Datatype::Known(format) => format.unit,
+        Datatype::Unknown => 1,
+    }
+}
+
+// Turns round the size and code of each extension. The spans were read before anything was turned.
+pub fn turn_list(file: &mut [u8], count: usize, spans: [Span; LIMIT])
+    requires { ⌜ (count ≤ extensionLimit) × Placed (take count spans) (length (now file)) ⌝ }
+    ensures { λ _. ⌜ now (file .exit) ≡ turnRunsAt firstPlace (extensionRuns (take count spans)) (now (file .entry)) ⌝ }
+{
+    let mut k: usize = 0;
+    while k < count {
+        let span = spans[k];
+        units::turn_units(file, span.start, 2, 4);
+        k += 1;
+    }
+}
+
+// Turns round each unit of an image, in the buffer that holds it.
+pub fn turn_image(buf: &mut [u8], image: Image, unit: usize)
+    requires { ⌜ (1 ≤ unit) × (image .offset + image .bytes ≤ length (now buf)) ⌝ }
+    ensures { λ _. ⌜ now (buf .exit) ≡ turnedAt unit (image .offset) (image .bytes / unit) (now (buf .entry)) ⌝ }
+{
+    let start = image.offset as usize;
+    let count = image.bytes as usize / unit;
+    units::turn_units(buf, start, count, unit);
+}
