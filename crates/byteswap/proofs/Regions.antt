@@ -49,8 +49,8 @@ module _ (o : Order) (x : List ℕ) (w : Complete o x) where
   length-same : length (turnedPiece x) ≡ length x
   length-same = length-turnRuns (pieceRuns x) x
 
-  whole-same : Complete (other o) (turnedPiece x)
-  whole-same =
+  complete-same : Complete (other o) (turnedPiece x)
+  complete-same =
       record {
         size = size-same ∙ w .size ∙ ap pos (sym length-same);
         least = rw length-same (w .least);
@@ -88,9 +88,9 @@ unfolding turnRuns
 runs-none = refl
 
 module _ (o : Order) where
-  wholes-same : {xs : List (List ℕ)} → AllComplete o xs → AllComplete (other o) (turnedPieces xs)
-  wholes-same none = none
-  wholes-same (one {x} w ws) = one (whole-same o x w) (wholes-same ws)
+  all-same : {xs : List (List ℕ)} → AllComplete o xs → AllComplete (other o) (turnedPieces xs)
+  all-same none = none
+  all-same (one {x} w ws) = one (complete-same o x w) (all-same ws)
 
   spans-same : (at : ℕ) {xs : List (List ℕ)} → AllComplete o xs → spansFrom (other o) at (turnedPieces xs) ≡ spansFrom o at xs
   unfolding spansFrom
@@ -118,5 +118,5 @@ module _ (o : Order) where
       let turned : turnRuns (extensionRuns xs) rest ≡ joined (turnedPieces ps) =
       (λ i. turnRuns (extensionRuns (sym spans i)) (sym region i)) ∙ joined-turned at complete in
       rw turned
-      (walk-join (other o) extensionLimit at (wholes-same complete) (omega arith) (omega arith) (λ e. omega arith)
+      (walk-join (other o) extensionLimit at (all-same complete) (omega arith) (omega arith) (λ e. omega arith)
       ∙ ap listed (spans-same at complete ∙ spans))

@@ -21,7 +21,7 @@ use Rattle.extension.specs.Walk.{extensionLimit, firstPlace, spanAt}
 use Rattle.extension.specs.Listing.{noSpan, spansOf}
 use Rattle.extension.specs.Pieces.{spansFrom}
 use Rattle.extension.proofs.Listings.{spansOf-at}
-use Rattle.extension.proofs.Pieces.{spansFrom-at, wholes-at}
+use Rattle.extension.proofs.Pieces.{spansFrom-at, complete-at}
 use Rattle.header.specs.declared.Kind.{Kind}
 use Rattle.header.specs.declared.Kind.the-variants.{Single, Pair}
 use Rattle.layout.specs.File.{orderOf, kindOf, endOf}
@@ -100,7 +100,7 @@ module _ (f : List ℕ) (ss : List Span) (a : AcceptedFile f ss) where
       let at : getD (spansFrom (orderOf f) firstPlace (extensionList f)) k noSpan ≡ x =
       spansFrom-at (orderOf f) firstPlace (extensionList f) k noSpan h in
       let s : getD (spansOf ss) k noSpan ≡ x = spansOf-at ss k noSpan (omega arith) ∙ rw (list-spans f ss a) at at in
-      let w = wholes-at (list-complete f ss a) k h in
+      let w = complete-at (list-complete f ss a) k h in
       let n = before-next (extensionList f) k h in
       let old : ofZ w32 (x .size) ≡ bytesBefore f (k + 1) - bytesBefore f k = rw (w .size) (omega arith) in
       (λ i. record { at = s i .start; old = ofZ w32 (s i .size) }) ∙ (λ i. record { at = x .start; old = old i })

@@ -19,7 +19,7 @@ use Rattle.extension.specs.Fills.{Proper, Fills, full, next}
 use Rattle.extension.specs.Pieces.{pieces, Complete, AllComplete, none, one, spansFrom}
 use Rattle.extension.proofs.Signs.{not-negative}
 use Rattle.extension.proofs.Regions.{length-rest, getD-rest, u32-same}
-use Rattle.extension.proofs.Pieces.{whole-small, Opened, opened, spansFrom-at, length-spansFrom, wholes-at, joined-at}
+use Rattle.extension.proofs.Pieces.{complete-small, Opened, opened, spansFrom-at, length-spansFrom, complete-at, joined-at}
 
 whole-proper : {order : Order} {x : List ℕ} (at : ℕ) → Complete order x → Proper (spanAt order at x)
 whole-proper {order} {x} at w =
@@ -28,7 +28,7 @@ whole-proper {order} {x} at w =
       size = w .size ∙ sym (ap pos n);
       least = rw n (w .least);
       units = rw n (w .units);
-      small = rw n (whole-small w);
+      small = rw n (complete-small w);
       code = not-negative (i32At order x 4) (w .code);
     }
 
@@ -45,7 +45,7 @@ fills-spans {order} at (one {x} {xs} w ws) =
 pub walk-fills : (order : Order) (left at : ℕ) (rest : List ℕ) (xs : List Span) → walk order left at rest ≡ listed xs → Fills at (at + length rest) xs
 walk-fills order left at rest xs e =
     let o = opened order left at rest xs e in
-    rw (o .region, o .spans) at (fills-spans at (o .wholes))
+    rw (o .region, o .spans) at (fills-spans at (o .complete))
 
 fills-order : {at end : ℕ} {xs : List Span} → Fills at end xs → at ≤ end
 fills-order (full e) = omega arith
@@ -96,13 +96,13 @@ module _ (order : Order) (left at end : ℕ) (file : List ℕ) (xs : List Span) 
   span-is : getD xs k z ≡ spanAt order (at + before) piece
   span-is = rw (opening .spans) at (spansFrom-at order at (pieces xs rest) k z counted)
 
-  whole-is : Complete order piece
-  whole-is = wholes-at (opening .wholes) k counted
+  complete-is : Complete order piece
+  complete-is = complete-at (opening .complete) k counted
 
   inside : before + length piece ≤ length rest
   inside =
       let i = rw span-is at (fills-at (walk-fills order left at rest xs walked) k z below) in
-      let n : natAbs (i32At order piece 0) ≡ length piece = ap natAbs (whole-is .size) in
+      let n : natAbs (i32At order piece 0) ≡ length piece = ap natAbs (complete-is .size) in
       omega arith
 
   number-is : (j : ℕ) → j + 4 ≤ 16 → i32At order piece j ≡ i32At order file (at + before + j)
@@ -110,7 +110,7 @@ module _ (order : Order) (left at end : ℕ) (file : List ℕ) (xs : List Span) 
       ap (toZ w32)
       (u32-same order piece file j (at + before + j)
       (λ i b.
-      let w = whole-is in
+      let w = complete-is in
       let e : at + before + j + i ≡ at + (before + (j + i)) = omega arith in
       let r = joined-at (pieces xs rest) k (j + i) counted (omega arith) in
       rw e (sym (rw (opening .region) at r) ∙ getD-rest file end at (before + (j + i)) (omega (arith, inside)))))

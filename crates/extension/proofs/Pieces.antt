@@ -26,8 +26,8 @@ use Rattle.extension.proofs.Walks.{before, stopped-never, walk-extensio
 pub i32-front : (order : Order) (x r : List ℕ) (at : ℕ) → at + 4 ≤ length x → i32At order (x ++ r) at ≡ i32At order x at
 i32-front order x r at h = ap (toZ w32) (u32-same order (x ++ r) x at at (λ k below. List·getD-append x r 0 (at + k) (omega arith)))
 
-pub whole-small : {order : Order} {x : List ℕ} → Complete order x → length x < 2147483648
-whole-small {order} {x} w = let t = toZ-low (u32At order x 0) (length x) (w .size) in omega arith
+pub complete-small : {order : Order} {x : List ℕ} → Complete order x → length x < 2147483648
+complete-small {order} {x} w = let t = toZ-low (u32At order x 0) (length x) (w .size) in omega arith
 
 -- whole extensions, joined, are walked over
 module _ (order : Order) (x r : List ℕ) (w : Complete order x) where
@@ -73,7 +73,7 @@ placed-listed order head tail {xs} h ws some few =
 -- than may come, and at the limit at least one
 pub record Opened (order : Order) (left at : ℕ) (rest : List ℕ) (ss : List Span) : Type 0 where
   pub region : joined (pieces ss rest) ≡ rest
-  pub wholes : AllComplete order (pieces ss rest)
+  pub complete : AllComplete order (pieces ss rest)
   pub spans : spansFrom order at (pieces ss rest) ≡ ss
   pub few : length ss ≤ left
   pub some : left ≡ extensionLimit → 0 < length ss
@@ -92,7 +92,7 @@ module _ (order : Order) (left at : ℕ) (rest : List ℕ) where
   open-end ss f e =
       let d = at-end order (before left) at rest f in
       let z : ss ≡ [] = cc in
-      rw (z, nothing rest (d .0)) record { region = refl; wholes = none; spans = refl; few = zero-le; some = λ l. absurd (d .1 (omega arith)) }
+      rw (z, nothing rest (d .0)) record { region = refl; complete = none; spans = refl; few = zero-le; some = λ l. absurd (d .1 (omega arith)) }
 
   open-refused : (ss : List Span) (r : Refusal) → stopped r ≡ listed ss → Opened order left at rest ss
   open-refused ss r e = stopped-never e
@@ -110,8 +110,8 @@ module _ (order : Order) (left at : ℕ) (rest : List ℕ) where
     piece-span : spanAt order at (take (natAbs (x .size)) rest) ≡ x
     piece-span = rw (piece-number 0 (omega arith), piece-number 4 (omega arith)) (sym (t .span))
 
-    piece-whole : Complete order (take (natAbs (x .size)) rest)
-    piece-whole =
+    piece-complete : Complete order (take (natAbs (x .size)) rest)
+    piece-complete =
         record {
           size = ap (λ (y : Span). y .size) piece-span ∙ t .size .whole ∙ sym (ap pos piece-length);
           least = rw piece-length (t .size .least);
@@ -125,7 +125,7 @@ unfolding pieces spansFrom
 open-more order m at rest x xs t o =
     record {
       region = rw (o .region) (take-append-drop (natAbs (x .size)) rest);
-      wholes = one (piece-whole order (suc m) at rest x t) (o .wholes);
+      complete = one (piece-complete order (suc m) at rest x t) (o .complete);
       spans = rw (piece-length order (suc m) at rest x t, piece-span order (suc m) at rest x t, o .spans);
       few = suc-le-suc (o .few);
       some = λ e. suc-le-suc zero-le;
@@ -165,10 +165,10 @@ unfolding spansFrom
 length-spansFrom order at [] = refl
 length-spansFrom order at (x ∷ xs) = ap suc (length-spansFrom order (at + length x) xs)
 
-pub wholes-at : {order : Order} {xs : List (List ℕ)} → AllComplete order xs → (k : ℕ) → k < length xs → Complete order (getD xs k [])
-wholes-at none k h = absurd (omega arith)
-wholes-at (one w ws) zero h = w
-wholes-at (one w ws) (suc k) h = wholes-at ws k (omega arith)
+pub complete-at : {order : Order} {xs : List (List ℕ)} → AllComplete order xs → (k : ℕ) → k < length xs → Complete order (getD xs k [])
+complete-at none k h = absurd (omega arith)
+complete-at (one w ws) zero h = w
+complete-at (one w ws) (suc k) h = complete-at ws k (omega arith)
 
 -- the bytes of the k-th extension stand behind those before it
 pub joined-at : (xs : List (List ℕ)) (k i : ℕ) → k < length xs → i < length (getD xs k [])

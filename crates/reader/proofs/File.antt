@@ -160,7 +160,7 @@ module _ (s : List ℕ) (xs : List Span) where
   list-some inside h e =
       let o = opened (orderOf s) extensionLimit firstPlace (regionOf s) xs e in
       record {
-        complete = o .wholes;
+        complete = o .complete;
         spans = o .spans;
         few = o .few;
         some = λ n. o .some refl;
