@@ -91,7 +91,7 @@ pub fn slot_for(change: Change, spans: [Span; LIMIT], end: usize) -> Slot
 }
 
 // The bytes of an extension with a payload of n bytes, as far as they are told apart.
-fn size_for(n: usize) -> usize
+pub fn size_for(n: usize) -> usize
     ensures { λ r. ⌜ r ≡ min (sizeFor n) sizeCap ⌝ }
 {
     if offset::LIMIT < n as u64 {

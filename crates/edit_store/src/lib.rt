@@ -22,7 +22,7 @@ fn put_extension(buf: &mut [u8], at: usize, order: Order, code: i32, payload: &[
     ensures { λ _. ⌜ now (buf .exit) ≡ put (now (buf .entry)) at (stored order code (now (payload .entry))) ⌝ }
 {
     let n = payload.len();
-    let size = (n + 23) / 16 * 16;
+    let size = change::size_for(n);
     store::put_u32(buf, at, order, size as u32);
     store::put_i32(buf, at + 4, order, code);
     buffer::copy_in(buf, at + 8, payload);
