@@ -16,6 +16,8 @@ use Rattle.change.specs.declared.Change.{Change}
 use Rattle.change.specs.declared.Change.the-variants.{Append, Replace, Remove}
 use Rattle.change.specs.declared.Slot.{Slot}
 
+-- ---- What the promises of append, replace and remove rest on
+
 -- "its size the least multiple of 16 that is at least L + 8" (the law `size-least` says so)
 abbrev pub sizeFor : ℕ → ℕ
 sizeFor n = (n + 23) / 16 * 16
@@ -32,13 +34,15 @@ offersNegative Append code = ltZ code (pos 0)
 offersNegative (Replace k) code = ltZ code (pos 0)
 offersNegative (Remove k) code = false
 
--- rule 20 by the number of extensions and the region's end
+-- ---- What only the steps between cite
+
+-- rule 20 by the number of extensions and the region's end; of a file it is `entersPrivate` (edit_plan/Refusals)
 abbrev pub entersBytes : Change → ℕ → ℕ → Bool
 entersBytes Append count end = eqb count 0 && ltb firstPlace end
 entersBytes (Replace k) count end = false
 entersBytes (Remove k) count end = false
 
--- rule 21's "would have 65 extensions", by their number
+-- rule 21's "would have 65 extensions", by their number; of a file it is `tooMuch` (edit_plan/Refusals)
 abbrev pub tooMany : Change → ℕ → Bool
 tooMany Append count = leb extensionLimit count
 tooMany (Replace k) count = false

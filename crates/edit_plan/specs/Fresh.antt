@@ -22,7 +22,7 @@ use Rattle.change.specs.declared.Change.{Change}
 use Rattle.change.specs.declared.Change.the-variants.{Append, Replace, Remove}
 use Rattle.change.specs.Change.{sizeFor}
 
--- E: "size and code in the file's order, the L bytes, the spare zeros"
+-- E: "size and code in the file's order, the L bytes, the spare zeros"; its size is `sizeFor` (change/Change)
 unfoldable pub stored : Order → ℤ → List ℕ → List ℕ
 stored order code p =
     bytesOf order 4 (sizeFor (length p))

@@ -17,6 +17,8 @@ use Rattle.change.specs.declared.Change.the-variants.{Append, Replace, Remove}
 use Rattle.change.specs.Change.{missingIn, offersNegative}
 use Rattle.edit_plan.specs.Fresh.{extensionList, editedList, endFor, freshOf}
 
+-- Rules 18 and 19 ask no file: `missingIn` and `offersNegative` (change/Change).
+
 -- rule 20: "append where the extender is zero and bytes already follow 352 before the end of the extension region"; past rule 12 an
 -- extender that is not 1,0,0,0 is zero
 abbrev pub entersPrivate : Change → List ℕ → Bool
