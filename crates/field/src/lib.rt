@@ -1,7 +1,8 @@
-// Numbers of one, two and four bytes in a file's byte order, read from a slice (source document 003 for the widths). The
-// readers are total: past the end a byte reads as 0, so that no caller proves a length.
+// Numbers of one, two and four bytes in a file's byte order, read from a slice (source document 003 for the widths). A
+// number is read where all its bytes are, and no place is tested; of a byte, and of bytes that are copied out, those past
+// the end are 0.
 ghost use mathlib.Core.Path.{_≡_};
-ghost use Prim.Native.Nat.{_+_, _*_, _<_};
+ghost use Prim.Native.Nat.{_+_, _*_, _/_, _%_, _<_, _≤_};
 ghost use lib.ListN.{length, getD};
 ghost use mir.Syntax.{w16, w32};
 ghost use mir.Val.{toZ, ofZ};
@@ -20,20 +21,29 @@ pub fn byte_at(s: &[u8], at: usize) -> u8
     if at < s.len() { s[at] } else { 0 }
 }
 
+fn byte(s: &[u8], at: usize) -> u8
+    requires { ⌜ at < length (now s) ⌝ }
+    ensures { λ r. ⌜ r ≡ getD (now (s .entry)) at 0 ⌝ }
+{
+    s[at]
+}
+
 fn byte16(s: &[u8], at: usize) -> u16
+    requires { ⌜ at < length (now s) ⌝ }
     ensures { λ r. ⌜ (r ≡ getD (now (s .entry)) at 0) × (r < 256) ⌝ }
 {
-    byte_at(s, at) as u16
+    byte(s, at) as u16
 }
 
 fn byte32(s: &[u8], at: usize) -> u32
+    requires { ⌜ at < length (now s) ⌝ }
     ensures { λ r. ⌜ (r ≡ getD (now (s .entry)) at 0) × (r < 256) ⌝ }
 {
-    byte_at(s, at) as u32
+    byte(s, at) as u32
 }
 
 pub fn read_u16(s: &[u8], at: usize, order: Order) -> u16
-    requires { ⌜ at < 4294967296 ⌝ }
+    requires { ⌜ at + 2 ≤ length (now s) ⌝ }
     ensures { λ r. ⌜ r ≡ u16At order (now (s .entry)) at ⌝ }
 {
     let a = byte16(s, at);
@@ -44,17 +54,26 @@ pub fn read_u16(s: &[u8], at: usize, order: Order) -> u16
     }
 }
 
+// A number's four bytes in the other order.
+fn turned32(n: u32) -> u32
+    ensures { λ r. ⌜ r ≡ n / 16777216 + 256 * (n / 65536 % 256) + 65536 * (n / 256 % 256) + 16777216 * (n % 256) ⌝ }
+{
+    n / 16777216 + 256 * (n / 65536 % 256) + 65536 * (n / 256 % 256) + 16777216 * (n % 256)
+}
+
+// The bytes are taken in one order, and turned for the other, so that the compiler makes one load of the four.
 pub fn read_u32(s: &[u8], at: usize, order: Order) -> u32
-    requires { ⌜ at < 4294967296 ⌝ }
+    requires { ⌜ at + 4 ≤ length (now s) ⌝ }
     ensures { λ r. ⌜ r ≡ u32At order (now (s .entry)) at ⌝ }
 {
     let a = byte32(s, at);
     let b = byte32(s, at + 1);
     let c = byte32(s, at + 2);
     let d = byte32(s, at + 3);
+    let n = a + 256 * b + 65536 * c + 16777216 * d;
     match order {
-        Order::Little => a + 256 * b + 65536 * c + 16777216 * d,
-        Order::Big => 16777216 * a + 65536 * b + 256 * c + d,
+        Order::Little => n,
+        Order::Big => turned32(n),
     }
 }
 
@@ -100,20 +119,20 @@ pub fn bits32(z: i32) -> u32
 }
 
 pub fn read_i16(s: &[u8], at: usize, order: Order) -> i16
-    requires { ⌜ at < 4294967296 ⌝ }
+    requires { ⌜ at + 2 ≤ length (now s) ⌝ }
     ensures { λ r. ⌜ r ≡ i16At order (now (s .entry)) at ⌝ }
 {
     signed16(read_u16(s, at, order))
 }
 
 pub fn read_i32(s: &[u8], at: usize, order: Order) -> i32
-    requires { ⌜ at < 4294967296 ⌝ }
+    requires { ⌜ at + 4 ≤ length (now s) ⌝ }
     ensures { λ r. ⌜ r ≡ i32At order (now (s .entry)) at ⌝ }
 {
     signed32(read_u32(s, at, order))
 }
 
-// Fills `out` with the bytes from a place, with zeros where the slice ends before; then the same with numbers.
+// Fills `out` with the bytes from a place, with zeros where the slice ends before; then, where it doesn't, with numbers.
 pub fn copy_out(s: &[u8], at: usize, out: &mut [u8])
     requires { ⌜ at + length (now out) < 4294967296 ⌝ }
     ensures { λ _. ⌜ now (out .exit) ≡ bytesAt at (length (now (out .entry))) (now (s .entry)) ⌝ }
@@ -138,7 +157,7 @@ fn pad_out(s: &[u8], at: usize, out: &mut [u8])
 }
 
 pub fn u32s_out(s: &[u8], at: usize, order: Order, out: &mut [u32])
-    requires { ⌜ at + length (now out) * 4 < 4294967296 ⌝ }
+    requires { ⌜ at + length (now out) * 4 ≤ length (now s) ⌝ }
     ensures { λ _. ⌜ now (out .exit) ≡ u32sAt order (now (s .entry)) at (length (now (out .entry))) ⌝ }
 {
     let mut i = 0;
@@ -149,7 +168,7 @@ pub fn u32s_out(s: &[u8], at: usize, order: Order, out: &mut [u32])
 }
 
 pub fn i16s_out(s: &[u8], at: usize, order: Order, out: &mut [i16])
-    requires { ⌜ at + length (now out) * 2 < 4294967296 ⌝ }
+    requires { ⌜ at + length (now out) * 2 ≤ length (now s) ⌝ }
     ensures { λ _. ⌜ now (out .exit) ≡ i16sAt order (now (s .entry)) at (length (now (out .entry))) ⌝ }
 {
     let mut i = 0;

@@ -2,7 +2,8 @@
 // bits, so that a NaN's payload survives (01-scope.md, "The record has all fields"). Grouped in file order; the dims,
 // the extension spans, the byte order and the kind of file stand at the top.
 ghost use mathlib.Core.Path.{_≡_};
-ghost use Prim.Native.Nat.{_<_};
+ghost use Prim.Native.Nat.{_+_, _<_, _≤_};
+ghost use lib.ListN.{length};
 ghost use Rattle.field.specs.Numbers.{bytesAt, u32sAt, i16sAt};
 ghost use Rattle.header.specs.Fields.{headerOf, keyOf, intentOf, scaleOf, displayOf, quaternOf, rowsOf};
 use extension::LIMIT;
@@ -151,8 +152,8 @@ fn text80(file: &[u8], at: usize) -> [u8; 80]
 }
 
 // The numbers of a field that is an array.
-fn u32x4(file: &[u8], at: usize, order: Order) -> [u32; 4]
-    requires { ⌜ at < 4294967000 ⌝ }
+pub fn u32x4(file: &[u8], at: usize, order: Order) -> [u32; 4]
+    requires { ⌜ at + 16 ≤ length (now file) ⌝ }
     ensures { λ r. ⌜ r ≡ u32sAt order (now (file .entry)) at 4 ⌝ }
 {
     let mut out = [0u32; 4];
@@ -161,7 +162,7 @@ fn u32x4(file: &[u8], at: usize, order: Order) -> [u32; 4]
 }
 
 fn u32x8(file: &[u8], at: usize, order: Order) -> [u32; 8]
-    requires { ⌜ at < 4294967000 ⌝ }
+    requires { ⌜ at + 32 ≤ length (now file) ⌝ }
     ensures { λ r. ⌜ r ≡ u32sAt order (now (file .entry)) at 8 ⌝ }
 {
     let mut out = [0u32; 8];
@@ -169,24 +170,19 @@ fn u32x8(file: &[u8], at: usize, order: Order) -> [u32; 8]
     out
 }
 
-fn i16x8(file: &[u8], at: usize, order: Order) -> [i16; 8]
-    requires { ⌜ at < 4294967000 ⌝ }
-    ensures { λ r. ⌜ r ≡ i16sAt order (now (file .entry)) at 8 ⌝ }
-{
-    let mut out = [0i16; 8];
-    field::i16s_out(file, at, order, &mut out);
-    out
-}
-
 // dim, which is judged before the rest is read.
 pub fn dims(file: &[u8], order: Order) -> [i16; 8]
+    requires { ⌜ 56 ≤ length (now file) ⌝ }
     ensures { λ r. ⌜ r ≡ i16sAt order (now (file .entry)) 40 8 ⌝ }
 {
-    i16x8(file, 40, order)
+    let mut out = [0i16; 8];
+    field::i16s_out(file, 40, order, &mut out);
+    out
 }
 
 // The groups, read in file order.
 fn read_key(file: &[u8], order: Order) -> Key
+    requires { ⌜ 348 ≤ length (now file) ⌝ }
     ensures { λ r. ⌜ r ≡ keyOf order (now (file .entry)) ⌝ }
 {
     Key {
@@ -201,6 +197,7 @@ fn read_key(file: &[u8], order: Order) -> Key
 }
 
 fn read_intent(file: &[u8], order: Order) -> Intent
+    requires { ⌜ 348 ≤ length (now file) ⌝ }
     ensures { λ r. ⌜ r ≡ intentOf order (now (file .entry)) ⌝ }
 {
     Intent {
@@ -215,6 +212,7 @@ fn read_intent(file: &[u8], order: Order) -> Intent
 }
 
 fn read_scale(file: &[u8], order: Order) -> Scale
+    requires { ⌜ 348 ≤ length (now file) ⌝ }
     ensures { λ r. ⌜ r ≡ scaleOf order (now (file .entry)) ⌝ }
 {
     Scale {
@@ -229,6 +227,7 @@ fn read_scale(file: &[u8], order: Order) -> Scale
 }
 
 fn read_display(file: &[u8], order: Order) -> Display
+    requires { ⌜ 348 ≤ length (now file) ⌝ }
     ensures { λ r. ⌜ r ≡ displayOf order (now (file .entry)) ⌝ }
 {
     Display {
@@ -244,6 +243,7 @@ fn read_display(file: &[u8], order: Order) -> Display
 }
 
 fn read_quatern(file: &[u8], order: Order) -> Quatern
+    requires { ⌜ 348 ≤ length (now file) ⌝ }
     ensures { λ r. ⌜ r ≡ quaternOf order (now (file .entry)) ⌝ }
 {
     Quatern {
@@ -259,6 +259,7 @@ fn read_quatern(file: &[u8], order: Order) -> Quatern
 }
 
 fn read_rows(file: &[u8], order: Order) -> Rows
+    requires { ⌜ 348 ≤ length (now file) ⌝ }
     ensures { λ r. ⌜ r ≡ rowsOf order (now (file .entry)) ⌝ }
 {
     Rows {
@@ -272,6 +273,7 @@ fn read_rows(file: &[u8], order: Order) -> Rows
 
 // All of a record.
 fn parse_front(front: &[u8], order: Order, kind: Kind, count: usize, spans: [Span; LIMIT]) -> Header
+    requires { ⌜ 348 ≤ length (now front) ⌝ }
     ensures { λ r. ⌜ r ≡ headerOf order kind count spans (now (front .entry)) ⌝ }
 {
     Header {
@@ -290,8 +292,7 @@ fn parse_front(front: &[u8], order: Order, kind: Kind, count: usize, spans: [Spa
 }
 
 // The record of a file's first 348 bytes, with what is known of it beside them. Past the end there are zeros, so that
-// an empty file's record is all zero. The bytes are copied first: of an array the compiler knows that each field lies
-// inside.
+// an empty file's record is all zero: the bytes are copied first, and each field then lies inside.
 pub fn parse(file: &[u8], order: Order, kind: Kind, count: usize, spans: [Span; LIMIT]) -> Header
     ensures { λ r. ⌜ r ≡ headerOf order kind count spans (now (file .entry)) ⌝ }
 {
