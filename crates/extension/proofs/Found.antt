@@ -14,7 +14,7 @@ use Rattle.field.specs.Numbers.{i32At}
 use Rattle.refusal.specs.Table.{row, refusal, verdict, decided}
 use Rattle.extension.specs.declared.Span.{Span}
 use Rattle.extension.specs.Walk.{extensionLimit, sizeRule, span, spanAt, Found, extension, ended, refused, foundBy, found}
-use Rattle.extension.proofs.Signs.{Ruled, ruled}
+use Rattle.extension.proofs.Signs.{Ruled, ruled, rule-short}
 
 module _ (before at n : ℕ) (size code : ℤ) where
   pub found-none : n ≡ 0 → before ≡ 0 → foundBy before at n size code ≡ refused (refusal 13 at)
@@ -46,6 +46,19 @@ abbrev outcome : Bool → Bool → Bool → Bool → Bool → ℕ → Span → F
 outcome t₁ t₂ t₃ t₄ t₅ p y =
     cond t₁ (cond t₂ (refused (refusal 13 p)) ended)
     (decided (verdict (row 15 t₃ p ∷ row 13 t₄ p ∷ row 14 t₅ (p + 4) ∷ [])) (extension y) refused)
+
+-- where the size rule is broken, nothing hangs on the code
+short-by : (t₁ t₂ t₃ t₅ s₅ : Bool) (p : ℕ) (y z : Span) → outcome t₁ t₂ t₃ true t₅ p y ≡ outcome t₁ t₂ t₃ true s₅ p z
+unfolding verdict
+short-by true t₂ t₃ t₅ s₅ p y z = refl
+short-by false t₂ true t₅ s₅ p y z = refl
+short-by false t₂ false t₅ s₅ p y z = refl
+
+-- and fewer than 16 bytes break it with any size
+pub found-short : (before at n : ℕ) (size code size' code' : ℤ) → n < 16 → foundBy before at n size code ≡ foundBy before at n size' code'
+found-short before at n size code size' code' h =
+    rw (rule-short size n h, rule-short size' n h)
+    (short-by (eqb n 0) (eqb before 0) (leb extensionLimit before) (ltZ code (pos 0)) (ltZ code' (pos 0)) at (span at size code) (span at size' code'))
 
 -- the one way through the tests to an extension
 tests : (t₁ t₂ t₃ t₄ t₅ : Bool) (p : ℕ) (y x : Span) → outcome t₁ t₂ t₃ t₄ t₅ p y ≡ extension x

@@ -1,8 +1,8 @@
 -- A listing, read back: which walk it is of. An accepted one's count is the length of the list.
-use Prim.Native.Nat.{ℕ, _<_, _-_}
+use Prim.Native.Nat.{ℕ, zero, suc, _-_}
 use mathlib.Core.Path.{_≡_, refl}
-use mathlib.Core.List.{List, []}
-use lib.ListN.{length, getD, replicate, List·getD-append}
+use mathlib.Core.List.{List, [], _∷_, _++_}
+use lib.ListN.{length, getD, replicate}
 use Rattle.refusal.specs.declared.Refusal.{Refusal}
 use Rattle.refusal.specs.declared.Verdict.the-variants.{Accepted, Refused}
 use Rattle.extension.specs.declared.Span.{Span}
@@ -27,7 +27,17 @@ unfolding listingOf
 listing-refused (listed xs) l r e a = cc
 listing-refused (stopped q) l r e a = cc
 
--- below the count stand the list's own spans
-pub spansOf-at : (xs : List Span) (k : ℕ) (z : Span) → k < length xs → getD (spansOf xs) k z ≡ getD xs k z
+-- at any number stands what the list itself has there, and past it zeros
+zeros-at : (n k : ℕ) → getD (replicate n noSpan) k noSpan ≡ noSpan
+zeros-at zero k = refl
+zeros-at (suc n) zero = refl
+zeros-at (suc n) (suc k) = zeros-at n k
+
+padded-at : (xs : List Span) (n k : ℕ) → getD (xs ++ replicate n noSpan) k noSpan ≡ getD xs k noSpan
+padded-at [] n k = zeros-at n k
+padded-at (x ∷ xs) n zero = refl
+padded-at (x ∷ xs) n (suc k) = padded-at xs n k
+
+pub spansOf-at : (xs : List Span) (k : ℕ) → getD (spansOf xs) k noSpan ≡ getD xs k noSpan
 unfolding spansOf
-spansOf-at xs k z h = List·getD-append xs (replicate (extensionLimit - length xs) noSpan) z k h
+spansOf-at xs k = padded-at xs (extensionLimit - length xs) k

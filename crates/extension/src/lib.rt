@@ -1,7 +1,7 @@
 // A file's extensions: a walker that moves on one extension at a time (01-scope.md, "Extensions", rules 13, 14 and 15).
 // Payload bytes are not read. The crate listing lists them all.
 ghost use mathlib.Core.Path.{_≡_};
-ghost use Prim.Native.Nat.{_+_, _<_};
+ghost use Prim.Native.Nat.{_+_, _<_, _≤_};
 ghost use lib.ListN.{length};
 ghost use Rattle.refusal.specs.Table.{refusal};
 ghost use Rattle.extension.specs.Walk.{sizeRule, foundBy, found, stepFrom, stepOf, firstPlace};
@@ -126,10 +126,24 @@ impl Walker {
         requires { ⌜ self .at + length (now rest) < 18446744073709551616 ⌝ }
         ensures { λ r. ⌜ r ≡ stepFrom self (found (self .order) (self .count) (self .at) (now (rest .entry))) ⌝ }
     {
+        // Fewer than 16 bytes break the size rule, whatever size they begin with.
+        if rest.len() < 16 {
+            return self.step_by(rest.len(), 0, 0);
+        }
         let order = self.order;
         let size = field::read_i32(rest, 0, order);
         let code = field::read_i32(rest, 4, order);
         self.step_by(rest.len(), size, code)
+    }
+
+    // The next extension of a file that has the whole region, with a state inside it.
+    pub fn step_within(self, file: &[u8]) -> Step
+        requires { ⌜ (self .at ≤ self .end) × (self .end ≤ length (now file)) ⌝ }
+        ensures { λ r. ⌜ r ≡ stepOf (now (file .entry)) self ⌝ }
+    {
+        let end = self.end;
+        let at = self.at;
+        self.step_over(&file[at..end])
     }
 
     // The next extension of a file, with the state after it. Any state will do: past the region's end nothing is left.
