@@ -1,36 +1,27 @@
--- A list of spans that is filled by a walker's steps: what each step does to it.
-use Prim.Native.Nat.{ℕ, suc, _+_, _-_, _<_, _≤_}
+-- What is kept of a walk: all spans, in a list that is filled (`list`), or the place of the one that is wanted (`scan`). What each step
+-- does to it.
+use Prim.Native.Nat.{ℕ, zero, suc, _+_, _-_, _<_, _≤_}
 use mathlib.Core.Path.{_≡_, refl, sym, ap, _∙_}
-use mathlib.Core.List.{List, [], _∷_, _++_, append-nil}
+use mathlib.Core.Bool.{Bool, true, false}
+use mathlib.Core.List.{List, [], _∷_, _++_}
 use native.Mathlib.Omega.{arith}
-use lib.ListN.{length, set, replicate, length-append}
-use lib.Seq.{set-append-seam, append-snoc, drop-drop}
-use Rattle.refusal.specs.declared.Refusal.{Refusal}
-use Rattle.refusal.specs.declared.Verdict.the-variants.{Accepted, Refused}
+use borrow.Author.Tests.{eqb-true, eqb-false, eq-eqb, ne-eqb}
+use lib.Dec.{eqb}
+use lib.ListN.{length, getD, set, replicate, length-append}
+use lib.Seq.{set-append-seam, append-snoc}
+use Rattle.field.specs.declared.Order.{Order}
+use Rattle.field.specs.Numbers.{i32At}
 use Rattle.extension.specs.declared.Span.{Span}
 use Rattle.extension.specs.declared.Walker.{Walker}
-use Rattle.extension.specs.declared.Step.the-variants.{Extension, End, Halt}
-use Rattle.extension.specs.declared.Listing.{Listing}
-use Rattle.extension.specs.Walk.{extensionLimit, restOf, Found, extension, ended, refused, found, past, stepFrom, stepOf}
-use Rattle.extension.specs.Walk.{Walked, listed, stopped, onto, walk}
-use Rattle.extension.specs.Listing.{noSpan, spansOf, listingOf}
-use Rattle.extension.proofs.Found.{taken}
-use Rattle.extension.proofs.Walks.{before, walk-extension, walk-ended, walk-refused}
+use Rattle.extension.specs.declared.Step.the-variants.{Extension}
+use Rattle.extension.specs.Walk.{extensionLimit, firstPlace, span, past, stepOf, Walked, listed, extensionsIn}
+use Rattle.extension.specs.Listing.{noSpan, spansOf}
+use Rattle.extension.proofs.Regions.{length-rest}
+use Rattle.extension.proofs.Fills.{fills-at, extensions-fill, walk-reads}
+use Rattle.listing.specs.Scan.{keptOf}
+use Rattle.listing.proofs.Passed.{Passed, pass-taken, pass-room, pass-turn}
 
--- spans, and then those of a walk
-abbrev pub after : List Span → Walked → Walked
-after ys (listed xs) = listed (ys ++ xs)
-after ys (stopped r) = stopped r
-
-pub after-none : (r : Walked) → r ≡ after [] r
-after-none (listed xs) = refl
-after-none (stopped r) = refl
-
-pub after-onto : (ys : List Span) (x : Span) (r : Walked) → after ys (onto x r) ≡ after (ys ++ (x ∷ [])) r
-after-onto ys x (listed xs) = ap listed (sym (append-snoc ys x xs))
-after-onto ys x (stopped r) = refl
-
-pub spans-more : (ys : List Span) (x : Span) → length ys < extensionLimit
+spans-more : (ys : List Span) (x : Span) → length ys < extensionLimit
     → set (spansOf ys) (length ys) x ≡ spansOf (ys ++ (x ∷ []))
 unfolding spansOf
 spans-more ys x h =
@@ -39,69 +30,73 @@ spans-more ys x h =
     let zeros = replicate (extensionLimit - (length ys + 1)) noSpan in
     rw (l, m) (set-append-seam ys noSpan zeros x ∙ sym (append-snoc ys x zeros))
 
--- `all` is the whole walk. So far the walker `w` has listed `so-far`, and it has the rest before it
 pub record Filled (all : Walked) (file : List ℕ) (w : Walker) (spans : List Span) : Type 0 where
   pub so-far : List Span
-  pub counted : length so-far ≡ w .count
-  pub most : w .count ≤ extensionLimit
+  pub passed : Passed all file w so-far
   pub kept : spans ≡ spansOf so-far
-  pub rest : all ≡ after so-far (walk (w .order) (before (w .count)) (w .at) (restOf file (w .end) (w .at)))
 
-pub stepped : (w next : Walker) (f : Found) (x : Span) → stepFrom w f ≡ Extension x next
-    → (f ≡ extension x) × (past w x ≡ next)
-stepped w next (extension y) x e = (cc, (cc))
-stepped w next ended x e = (cc, (cc))
-stepped w next (refused r) x e = (cc, (cc))
+pub fill-turn : (all : Walked) (file : List ℕ) (w : Walker) (spans : List Span) → Filled all file w spans → (x : Span) (next : Walker)
+    → stepOf file w ≡ Extension x next → Filled all file next (set spans (w .count) x)
+fill-turn all file w spans f x next e =
+    let p = f .passed in
+    let m = pass-room all file w (f .so-far) p x next e .0 in
+    record {
+      so-far = f .so-far ++ (x ∷ []);
+      passed = pass-turn all file w (f .so-far) p x next e;
+      kept = rw (f .kept, ← p .counted) (spans-more (f .so-far) x (omega (arith, m, p .counted)));
+    }
 
-pub stepped-end : (w : Walker) (f : Found) → stepFrom w f ≡ End → f ≡ ended
-stepped-end w (extension y) e = cc
-stepped-end w ended e = refl
-stepped-end w (refused r) e = cc
+-- ---- The one that is wanted
 
-pub stepped-halt : (w : Walker) (f : Found) (r : Refusal) → stepFrom w f ≡ Halt r → f ≡ refused r
-stepped-halt w (extension y) r e = cc
-stepped-halt w ended r e = cc
-stepped-halt w (refused q) r e = cc
+eqb-suc : (a b : ℕ) → eqb (suc a) (suc b) ≡ eqb a b
+eqb-suc a b = by (eqb a b) refl
+  where
+    by : (t : Bool) → eqb a b ≡ t → eqb (suc a) (suc b) ≡ eqb a b
+    by true e = eq-eqb (suc a) (suc b) (ap suc (eqb-true a b e)) ∙ sym e
+    by false e = ne-eqb (suc a) (suc b) (λ h. eqb-false a b e (omega arith)) ∙ sym e
 
-module _ (all : Walked) (file : List ℕ) (w : Walker) (spans : List Span) (f : Filled all file w spans) where
-  abbrev rest : List ℕ
-  rest = restOf file (w .end) (w .at)
+-- of a list that grew by one, where it starts
+kept-more : (ys : List Span) (x : Span) (n : ℕ)
+    → keptOf (length ys) n (x .start) (getD ys n noSpan .start) ≡ getD (ys ++ (x ∷ [])) n noSpan .start
+kept-more [] x zero = refl
+kept-more [] x (suc n) = rw (ne-eqb 0 (suc n) (omega arith))
+kept-more (y ∷ ys) x zero = rw (ne-eqb (suc (length ys)) 0 (omega arith))
+kept-more (y ∷ ys) x (suc n) = rw (eqb-suc (length ys) n) (kept-more ys x n)
 
-  -- what the step finds, as the walk asks for it
-  finds : {x : Found} → found (w .order) (w .count) (w .at) rest ≡ x → found (w .order) (before (before (w .count))) (w .at) rest ≡ x
-  finds e = let n : before (before (w .count)) ≡ w .count = omega (arith, f .most) in rw n e
+-- the walker stays inside its region, which the file has
+pub record Kept (all : Walked) (file : List ℕ) (wanted : ℕ) (w : Walker) (place : ℕ) : Type 0 where
+  pub so-far : List Span
+  pub passed : Passed all file w so-far
+  pub kept : place ≡ getD so-far wanted noSpan .start
+  pub inside : w .at ≤ w .end
+  pub whole : w .end ≤ length file
 
-  pub fill-room : (x : Span) (next : Walker) → stepOf file w ≡ Extension x next → (w .count < extensionLimit) × (next .count ≡ w .count + 1)
-  unfolding stepOf
-  fill-room x next e =
-      let s = stepped w next (found (w .order) (w .count) (w .at) rest) x e in
-      (taken (w .order) (w .count) (w .at) rest x (s .0) .more, sym (ap (λ (v : Walker). v .count) (s .1)))
+pub keep-turn : (all : Walked) (file : List ℕ) (wanted : ℕ) (w : Walker) (place : ℕ) → Kept all file wanted w place → (x : Span) (next : Walker) (n : ℕ)
+    → stepOf file w ≡ Extension x next → n ≡ keptOf (w .count) wanted (x .start) place → Kept all file wanted next n
+keep-turn all file wanted w place f x next n e d =
+    let p = f .passed in
+    let t = pass-taken all file w (f .so-far) p x next e in
+    let at : past w x .at ≡ next .at = ap (λ (v : Walker). v .at) (t .1) in
+    let end : w .end ≡ next .end = ap (λ (v : Walker). v .end) (t .1) in
+    record {
+      so-far = f .so-far ++ (x ∷ []);
+      passed = pass-turn all file w (f .so-far) p x next e;
+      kept = d ∙ rw (f .kept, ← p .counted) (kept-more (f .so-far) x wanted);
+      inside = omega (arith, f .inside, f .whole, t .0 .size .within, length-rest file (w .end) (w .at), at, end);
+      whole = omega (arith, f .whole, end);
+    }
 
-  pub fill-turn : (x : Span) (next : Walker) → stepOf file w ≡ Extension x next → Filled all file next (set spans (w .count) x)
-  unfolding stepOf
-  fill-turn x next e =
-      let s = stepped w next (found (w .order) (w .count) (w .at) rest) x e in
-      let t = taken (w .order) (w .count) (w .at) rest x (s .0) in
-      let n : length (f .so-far ++ (x ∷ [])) ≡ length (f .so-far) + 1 = length-append (f .so-far) (x ∷ []) in
-      let m : before (w .count) - 1 ≡ before (w .count + 1) = omega (arith, t .more) in
-      rw (← s .1)
-      record {
-        so-far = f .so-far ++ (x ∷ []);
-        counted = omega (arith, f .counted);
-        most = omega (arith, t .more);
-        kept = rw (f .kept, ← f .counted) (spans-more (f .so-far) x (omega (arith, t .more, f .counted)));
-        rest = f .rest ∙ rw (walk-extension (w .order) (w .at) rest (before (w .count)) x (finds (s .0)), after-onto, drop-drop, m);
-      }
+-- what stands at the place of a listed extension: the extension itself
+module _ (order : Order) (end : ℕ) (file : List ℕ) (xs : List Span) (inside : end ≤ length file) (e : extensionsIn order end file ≡ listed xs)
+    (k : ℕ) (below : k < length xs) where
+  abbrev found : Span
+  found = getD xs k noSpan
 
-  pub fill-end : stepOf file w ≡ End → _≡_ {A = Listing} (record { verdict = Accepted; count = w .count; spans = spans }) (listingOf all)
-  unfolding stepOf listingOf
-  fill-end e =
-      let s = stepped-end w (found (w .order) (w .count) (w .at) rest) e in
-      rw (f .rest, walk-ended (w .order) (w .at) rest (before (w .count)) (finds s), append-nil, ← f .kept, ← f .counted)
+  pub span-room : found .start + 8 ≤ length file
+  span-room = let i = fills-at (extensions-fill order end file xs inside e) k noSpan below in omega (arith, i .upto, i .proper .least)
 
-  pub fill-halt : (r : Refusal) → stepOf file w ≡ Halt r
-      → _≡_ {A = Listing} (record { verdict = Refused r; count = 0; spans = spansOf [] }) (listingOf all)
-  unfolding stepOf listingOf
-  fill-halt r e =
-      let s = stepped-halt w (found (w .order) (w .count) (w .at) rest) r e in
-      rw (f .rest, walk-refused (w .order) (w .at) rest (before (w .count)) r (finds s))
+  pub span-reads : span (found .start) (i32At order file (found .start)) (i32At order file (found .start + 4)) ≡ found
+  unfolding extensionsIn
+  span-reads =
+      let r = walk-reads order extensionLimit firstPlace end file xs e k noSpan below in
+      λ i. span (found .start) (sym (r .0) i) (sym (r .1) i)

@@ -9,7 +9,8 @@ use Rattle.extension.specs.declared.Step.the-variants.{Extension}
 use Rattle.extension.specs.Walk.{extensionLimit, stepOf, extensionsIn}
 use Rattle.extension.specs.Listing.{listingOf}
 use Rattle.extension.proofs.Walks.{before}
-use Rattle.listing.proofs.Filled.{after-none, Filled, fill-room, fill-turn, fill-end, fill-halt}
+use Rattle.listing.proofs.Passed.{pass-none, pass-room, pass-end, pass-halt}
+use Rattle.listing.proofs.Filled.{Filled, fill-turn}
 use Rattle.listing.proofs.list.Statement.{statement}
 use Rattle.listing.proofs.list.Tie as tie
 
@@ -26,16 +27,9 @@ no-spans-requires : tie.Need-no-spans-requires Inv-loop μ-loop
 no-spans-requires c κs = search needs
 
 loop-holds : tie.Need-loop-holds Inv-loop μ-loop
-unfolding extensionsIn
 loop-holds c =
     let e = c .before .new .ensures in
-    record {
-      so-far = [];
-      counted = sym (e .3);
-      most = omega (arith, e .3);
-      kept = c .no-spans .ensures;
-      rest = rw (e .2, e .3) (after-none _);
-    }
+    record { so-far = []; passed = pass-none _ _ (e .2) (e .3); kept = c .no-spans .ensures }
 
 step-requires : tie.Need-step-requires Inv-loop μ-loop
 step-requires c κs = search needs
@@ -51,7 +45,7 @@ step-is c = sym (c .before .before .before .step .ensures) ∙ c .before .step2 
 
 room-is : (c : tie.After-known-told Inv-loop μ-loop) → let w = c .before .before .before .before .loop .walker in
     (w .count < extensionLimit) × (c .before .step2 .given .0 .1 .0 .count ≡ w .count + 1)
-room-is c = fill-room _ _ _ _ (c .before .before .before .before .loop .inv) _ _ (step-is c)
+room-is c = pass-room _ _ _ _ (c .before .before .before .before .loop .inv .passed) _ _ (step-is c)
 
 mul-spans : tie.Need-mul-spans Inv-loop μ-loop
 mul-spans c = omega (arith, room-is c)
@@ -69,11 +63,13 @@ enum-told : tie.Need-enum-told Inv-loop μ-loop
 enum-told c = search needs
 
 returns : tie.Need-returns Inv-loop μ-loop
+unfolding listingOf
 returns c =
     let l = c .before .before .before in
+    let f = l .loop .inv in
     let e = l .before .before .new .ensures in
-    fill-end _ _ _ _ (l .loop .inv) (sym (c .before .before .step .ensures) ∙ c .enum-told .given .1)
-    ∙ (λ i. listingOf (extensionsIn (e .0 i) (e .1 i) (l .before .before .before .before .args .file .now)))
+    let all = pass-end _ _ _ _ (f .passed) (sym (c .before .before .step .ensures) ∙ c .enum-told .given .1) in
+    rw (← e .0, ← e .1, all, ← f .passed .counted, ← f .kept)
 
 enum-known-step-2 : tie.Need-enum-known-step-2 Inv-loop μ-loop
 enum-known-step-2 c = search needs
@@ -82,12 +78,12 @@ no-spans-requires-2 : tie.Need-no-spans-requires-2 Inv-loop μ-loop
 no-spans-requires-2 c κs = search needs
 
 returns-2 : tie.Need-returns-2 Inv-loop μ-loop
+unfolding listingOf
 returns-2 c =
     let l = c .before .before .before .before .before in
     let e = l .before .before .new .ensures in
-    rw (c .no-spans2 .ensures)
-    (fill-halt _ _ _ _ (l .loop .inv) _ (sym (c .before .before .before .before .step .ensures) ∙ c .before .before .step3 .given .1)
-    ∙ (λ i. listingOf (extensionsIn (e .0 i) (e .1 i) (l .before .before .before .before .args .file .now))))
+    let all = pass-halt _ _ _ _ (l .loop .inv .passed) _ (sym (c .before .before .before .before .step .ensures) ∙ c .before .before .step3 .given .1) in
+    rw (c .no-spans2 .ensures, ← e .0, ← e .1, all)
 
 pub list-spec : {M : Type 1} → statement M
 list-spec =

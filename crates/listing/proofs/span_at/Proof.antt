@@ -1,23 +1,28 @@
--- `span_at` meets its contract: past the array's end there is no span.
-use mathlib.Core.Path.{sym}
-use native.Mathlib.Omega.{arith}
-use lib.ListN.{List·getD-eq-default}
-use Rattle.extension.specs.Listing.{noSpan}
+-- `span_at` meets its contract: the two numbers are those that stand there.
+use mathlib.Core.Path.{_∙_}
 use borrow.Author.Needs.{needs}
+use mir.Syntax.{w32}
+use mir.ValLaws.{toZ-ofZ}
+use Rattle.extension.specs.Walk.{span}
 use Rattle.listing.proofs.span_at.Statement.{statement}
 use Rattle.listing.proofs.span_at.Tie as tie
 
-mul-result : tie.Need-mul-result
-mul-result c = search needs
+read-i32-requires : tie.Need-read-i32-requires
+read-i32-requires c κs = search needs
 
-array-copy-out-result : tie.Need-array-copy-out-result
-array-copy-out-result c = search needs
+add-read-i32 : tie.Need-add-read-i32
+add-read-i32 c = search needs
+
+read-i32-requires-2 : tie.Need-read-i32-requires-2
+read-i32-requires-2 c κs = search needs
 
 returns : tie.Need-returns
-returns c = search needs
-
-returns-2 : tie.Need-returns-2
-returns-2 c = sym (List·getD-eq-default (c .before .args .t1) noSpan (omega arith))
+returns c =
+    let size = c .before .read-i32 in
+    let code = c .read-i322 in
+    let s = toZ-ofZ w32 (size .result) (record { sfits = size .ok }) ∙ size .ensures in
+    let d = toZ-ofZ w32 (code .result) (record { sfits = code .ok }) ∙ code .ensures in
+    λ i. span (c .before .before .before .args .place) (s i) (d i)
 
 pub span-at-spec : {M : Type 1} → statement M
-span-at-spec = tie.close (tie.spec mul-result array-copy-out-result returns returns-2)
+span-at-spec = tie.close (tie.spec read-i32-requires add-read-i32 read-i32-requires-2 returns)
