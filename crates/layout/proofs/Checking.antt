@@ -1,14 +1,15 @@
 -- What rules 1 to 12 decide together: the verdicts of rules 1 to 4, 5 to 10, and 11 and 12, one after the other.
-use Prim.Native.Nat.{ℕ}
+use Prim.Native.Nat.{ℕ, _≤_}
 use mathlib.Core.Path.{_≡_, ap, sym, _∙_}
 use mathlib.Core.List.{List, _++_}
 use native.Mathlib.Omega.{arith}
+use borrow.Author.Tests.{ltb-false}
 use Rattle.field.specs.declared.Order.{Order}
 use Rattle.refusal.specs.declared.Refusal.{Refusal}
 use Rattle.refusal.specs.declared.Verdict.{Verdict}
 use Rattle.refusal.specs.declared.Verdict.the-variants.{Accepted, Refused}
 use Rattle.refusal.specs.Table.{verdict, decided, then}
-use Rattle.refusal.proofs.Rows.{verdict-append, decided-accepted, decided-refused}
+use Rattle.refusal.proofs.Rows.{Clear, one, accepted-clear, verdict-append, decided-accepted, decided-refused}
 use Rattle.header.specs.declared.Kind.{Kind}
 use Rattle.rules.specs.declared.Image.{Image}
 use Rattle.rules.specs.declared.Judged.the-variants.{Passed, Failed}
@@ -38,6 +39,13 @@ module _ (s : List ℕ) (len : ℕ) where
   began order kind e =
       let p = decided-accepted (verdict (headRows s len)) (λ r. unread-never) e in
       record { passed = p .0; order-is = cc (p .1); kind-is = cc (p .1) }
+
+  -- of what they pass, the header is there
+  pub began-long : (order : Order) (kind : Kind) → startIn s len ≡ Read order kind → 348 ≤ len
+  began-long order kind e = first (accepted-clear (headRows s len) (began order kind e .passed))
+    where
+      first : Clear (headRows s len) → 348 ≤ len
+      first (one r1 rest) = ltb-false len 348 r1
 
   -- the whole table's verdict
   abbrev parts : Verdict

@@ -1,25 +1,48 @@
 -- What rules 1 to 4 decide, rule by rule: each law names the rules that have passed and the one that refuses.
-use Prim.Native.Nat.{ℕ, _+_, _<_, _≤_}
-use mathlib.Core.Path.{_≡_, refl}
-use mathlib.Core.Bool.{Bool, true, false, cond, _&&_, _||_, and-true}
-use mathlib.Core.List.{List, [], _∷_}
-use native.Mathlib.Nat.{add-zero}
-use borrow.Author.Tests.{lt-ltb, le-ltb}
-use lib.Dec.{eqb}
-use lib.ListN.{getD}
+use Prim.Native.Nat.{ℕ, zero, suc, _+_, _*_, _<_, _≤_}
+use mathlib.Core.Path.{_≡_, refl, sym}
+use mathlib.Core.Bool.{Bool, true, false, cond, _&&_, _||_}
+use mathlib.Core.List.{List}
+use native.Mathlib.Omega.{arith}
+use borrow.Author.Tests.{lt-ltb, le-ltb, lt-leb, eq-eqb, ne-eqb, eqb-true, eqb-false}
+use lib.Dec.{leb, eqb}
+use lib.ListN.{length, getD}
 use Rattle.field.specs.declared.Order.the-variants.{Little, Big}
-use Rattle.field.specs.Numbers.{bytesAt, i32At}
+use Rattle.field.specs.Numbers.{bytesAt, littleValue, u32At, i32At}
+use Rattle.field.proofs.Inverse.{Bytes, none, one}
 use Rattle.refusal.specs.Table.{refusal, verdict}
 use Rattle.datatype.specs.Datatypes.{isNumber}
 use Rattle.header.specs.declared.Kind.the-variants.{Single, Pair}
 use Rattle.layout.specs.declared.Start.the-variants.{Read, Unread}
 use Rattle.layout.specs.File.{holdsIn, orderOf, sameBytes, hasMagic, kindOf, startIn}
 
--- four bytes, one by one
-pub four-bytes : (s : List ℕ) (at a b c d : ℕ)
-    → (eqb (getD s at 0) a && (eqb (getD s (at + 1) 0) b && (eqb (getD s (at + 2) 0) c && eqb (getD s (at + 3) 0) d)))
-    ≡ sameBytes (bytesAt at 4 s) (a ∷ b ∷ c ∷ d ∷ [])
-four-bytes s at a b c d = simp (add-zero, and-true)
+-- numbers are the same exactly when their last digits to the base 256 are, and what is before these
+digit-same : (a b x y : ℕ) → a < 256 → b < 256 → eqb (a + 256 * x) (b + 256 * y) ≡ eqb a b && eqb x y
+digit-same a b x y h k = by (eqb a b) refl (eqb x y) refl
+  where
+    by : (t : Bool) → eqb a b ≡ t → (u : Bool) → eqb x y ≡ u → eqb (a + 256 * x) (b + 256 * y) ≡ eqb a b && eqb x y
+    by true d true e = rw (d, e) (eq-eqb (a + 256 * x) (b + 256 * y) (omega (arith, eqb-true a b d, eqb-true x y e)))
+    by true d false e = rw (d, e) (ne-eqb (a + 256 * x) (b + 256 * y) (λ s. eqb-false x y e (omega arith)))
+    by false d u e = rw d (ne-eqb (a + 256 * x) (b + 256 * y) (λ s. eqb-false a b d (omega arith)))
+
+-- so bytes are the same exactly when their numbers are
+same-number : {l m : List ℕ} → Bytes l → Bytes m → length l ≡ length m → eqb (littleValue l) (littleValue m) ≡ sameBytes l m
+same-number none none e = refl
+same-number none (one h q) e = absurd (omega arith)
+same-number (one h p) none e = absurd (omega arith)
+same-number (one {a} {l} h p) (one {a = b} {l = m} k q) e = rw (← same-number p q (omega arith)) (digit-same a b (littleValue l) (littleValue m) h k)
+
+-- four bytes of a file, by their number
+pub same-word : (s : List ℕ) → ((i : ℕ) → getD s i 0 < 256) → (at : ℕ) {m : List ℕ} → Bytes m → length m ≡ 4
+    → eqb (u32At Little s at) (littleValue m) ≡ sameBytes (bytesAt at 4 s) m
+unfolding u32At
+same-word s byte at b e = same-number (one (byte (at + 0)) (one (byte (at + 1)) (one (byte (at + 2)) (one (byte (at + 3)) none)))) b (sym e)
+
+-- the numbers 0 and 1
+pub zero-or-one : (n : ℕ) → (eqb n 0 || eqb n 1) ≡ leb n 1
+zero-or-one zero = refl
+zero-or-one (suc zero) = refl
+zero-or-one (suc (suc n)) = rw (ne-eqb (suc (suc n)) 0 (omega arith), ne-eqb (suc (suc n)) 1 (omega arith), lt-leb (suc (suc n)) 1 (omega arith))
 
 -- of two tests either holds exactly when the one that is chosen by the first does
 chosen : {A : Type 0} (f : A → Bool) (a b : A) → (f a || f b) ≡ f (cond (f a) a b)

@@ -1,9 +1,12 @@
 // The layout of a file, by rules 1 to 12: its byte order, its kind and where its image is (01-scope.md, "Refusal
 // numbers", "The header rules"). Of a file's bytes the first 352 are enough, with its length beside them.
 ghost use mathlib.Core.Path.{_≡_};
+ghost use mathlib.Core.Bool.{_||_};
 ghost use mathlib.Core.List.{[], _∷_};
-ghost use Prim.Native.Nat.{_<_};
-ghost use Rattle.field.specs.Numbers.{bytesAt};
+ghost use Prim.Native.Nat.{_<_, _≤_, min};
+ghost use lib.ListN.{length};
+ghost use Rattle.field.specs.declared.Order.the-variants.{Little};
+ghost use Rattle.field.specs.Numbers.{bytesAt, littleValue, u32At};
 ghost use Rattle.refusal.specs.Table.{verdict};
 ghost use Rattle.layout.specs.File.{sameBytes, holdsIn, orderOf, hasMagic, kindOf, startIn, shapeIn, cutExtender};
 ghost use Rattle.layout.specs.File.{hasNone, hasExtensions, endRows, checkedIn, checkedOf};
@@ -33,20 +36,37 @@ pub enum Checked {
     Breaks(Refusal),
 }
 
-// Whether the four bytes at a place are these.
+// The number of four bytes, the first the least.
+fn word_of(a: u8, b: u8, c: u8, d: u8) -> u32
+    ensures { λ r. ⌜ r ≡ littleValue (a ∷ b ∷ c ∷ d ∷ []) ⌝ }
+{
+    a as u32 + 256 * (b as u32 + 256 * (c as u32 + 256 * d as u32))
+}
+
+// The number of the four bytes at a place. Past the end there are zeros.
+fn word_at(file: &[u8], at: usize) -> u32
+    requires { ⌜ at < 4294967000 ⌝ }
+    ensures { λ r. ⌜ r ≡ u32At Little (now (file .entry)) at ⌝ }
+{
+    if at + 4 <= file.len() {
+        return field::read_u32(file, at, Order::Little);
+    }
+    let mut four = [0u8; 4];
+    field::copy_out(file, at, &mut four);
+    field::read_u32(&four, 0, Order::Little)
+}
+
+// Whether the four bytes at a place are these: one test, of both as numbers.
 fn is_four(file: &[u8], at: usize, a: u8, b: u8, c: u8, d: u8) -> bool
-    requires { ⌜ at < 4294967296 ⌝ }
+    requires { ⌜ at < 4294967000 ⌝ }
     ensures { λ r. ⌜ r ≡ sameBytes (bytesAt at 4 (now (file .entry))) (a ∷ b ∷ c ∷ d ∷ []) ⌝ }
 {
-    let first = field::byte_at(file, at) == a;
-    let second = field::byte_at(file, at + 1) == b;
-    let third = field::byte_at(file, at + 2) == c;
-    let fourth = field::byte_at(file, at + 3) == d;
-    first & (second & (third & fourth))
+    word_at(file, at) == word_of(a, b, c, d)
 }
 
 // Whether dim[0] is in 1..7 in a byte order.
 fn holds_in(file: &[u8], order: Order) -> bool
+    requires { ⌜ 348 ≤ length (now file) ⌝ }
     ensures { λ r. ⌜ r ≡ holdsIn order (now (file .entry)) ⌝ }
 {
     let n = field::read_i16(file, 40, order);
@@ -54,7 +74,8 @@ fn holds_in(file: &[u8], order: Order) -> bool
 }
 
 // The byte order of a file that rule 2 passes.
-pub fn order_of(file: &[u8]) -> Order
+fn order_of(file: &[u8]) -> Order
+    requires { ⌜ 348 ≤ length (now file) ⌝ }
     ensures { λ r. ⌜ r ≡ orderOf (now (file .entry)) ⌝ }
 {
     if holds_in(file, Order::Little) {
@@ -74,7 +95,7 @@ fn has_magic(file: &[u8], kind: Kind) -> bool
 }
 
 // The kind of a file that rule 4 passes.
-pub fn kind_of(file: &[u8]) -> Kind
+fn kind_of(file: &[u8]) -> Kind
     ensures { λ r. ⌜ r ≡ kindOf (now (file .entry)) ⌝ }
 {
     if has_magic(file, Kind::Single) {
@@ -92,6 +113,7 @@ fn unread(number: u64, place: usize) -> Start
 
 // Rules 1 to 4 of a file of `len` bytes.
 fn start_in(file: &[u8], len: usize) -> Start
+    requires { ⌜ min len 348 ≤ length (now file) ⌝ }
     ensures { λ r. ⌜ r ≡ startIn (now (file .entry)) len ⌝ }
 {
     if len < 348 {
@@ -113,6 +135,7 @@ fn start_in(file: &[u8], len: usize) -> Start
 
 // The fields that rules 5 to 10 judge.
 fn shape_in(file: &[u8], order: Order, kind: Kind) -> Shape
+    requires { ⌜ 348 ≤ length (now file) ⌝ }
     ensures { λ r. ⌜ r ≡ shapeIn order kind (now (file .entry)) ⌝ }
 {
     Shape {
@@ -134,10 +157,11 @@ fn cut_extender(kind: Kind, len: usize) -> bool
     }
 }
 
-fn has_none(file: &[u8]) -> bool
-    ensures { λ r. ⌜ r ≡ hasNone (now (file .entry)) ⌝ }
+// Rule 12, of the extender: whether it is 0,0,0,0 or 1,0,0,0.
+fn is_extender(file: &[u8]) -> bool
+    ensures { λ r. ⌜ r ≡ (hasNone (now (file .entry)) || hasExtensions (now (file .entry))) ⌝ }
 {
-    is_four(file, 348, 0, 0, 0, 0)
+    word_at(file, 348) <= 1
 }
 
 pub fn has_extensions(file: &[u8]) -> bool
@@ -156,7 +180,7 @@ fn check_end(file: &[u8], len: usize, kind: Kind, image: Image) -> Verdict
             place: 108,
         });
     }
-    let extender = has_none(file) | has_extensions(file);
+    let extender = is_extender(file);
     if cut_extender(kind, len) | !extender {
         return Verdict::Refused(Refusal {
             number: 12,
@@ -168,7 +192,7 @@ fn check_end(file: &[u8], len: usize, kind: Kind, image: Image) -> Verdict
 
 // Rules 5 to 12 of a file that 1 to 4 pass.
 fn check_fields(file: &[u8], len: usize, order: Order, kind: Kind) -> Checked
-    requires { ⌜ startIn (now file) len ≡ Start.Read order kind ⌝ }
+    requires { ⌜ (min len 348 ≤ length (now file)) × (startIn (now file) len ≡ Start.Read order kind) ⌝ }
     ensures { λ r. ⌜ r ≡ checkedIn (now (file .entry)) len ⌝ }
 {
     let judged = rules::judge(shape_in(file, order, kind), len);
@@ -184,8 +208,9 @@ fn check_fields(file: &[u8], len: usize, order: Order, kind: Kind) -> Checked
     }
 }
 
-// Rules 1 to 12 of a file of `len` bytes.
+// Rules 1 to 12 of a file of `len` bytes, of which `file` has the header or, where there are fewer, all.
 pub fn check_in(file: &[u8], len: usize) -> Checked
+    requires { ⌜ min len 348 ≤ length (now file) ⌝ }
     ensures { λ r. ⌜ r ≡ checkedIn (now (file .entry)) len ⌝ }
 {
     let start = start_in(file, len);

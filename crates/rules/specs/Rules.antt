@@ -83,8 +83,12 @@ shapeOfRecord h =
       «vox_offset» = h .scale .«vox_offset»;
     }
 
+-- rules 2 and 5 to 10 of a record with these fields
+abbrev pub shapeRows : Shape → List Row
+shapeRows f = row 2 (not (oneToSeven (dimAt (f .dim) 0))) 40 ∷ fieldRows f 0
+
 abbrev pub recordRows : Header → List Row
-recordRows h = row 2 (not (oneToSeven (dimAt (h .dim) 0))) 40 ∷ fieldRows (shapeOfRecord h) 0
+recordRows h = shapeRows (shapeOfRecord h)
 
 unfoldable pub recordJudged : Header → Judged
 recordJudged h = decided (verdict (recordRows h)) (Passed (imageOf (shapeOfRecord h))) Failed

@@ -6,7 +6,7 @@ ghost use Prim.Native.Nat.{_≤_};
 ghost use Rattle.number.specs.Natural.{naturalOf};
 ghost use Rattle.datatype.specs.Datatypes.{datatypeOf, isNumber};
 ghost use Rattle.offset.specs.Offset.{isWhole, wholeOf};
-ghost use Rattle.rules.specs.Rules.{judgedOf, recordJudged, offsetOutside, axisCount, firstBad};
+ghost use Rattle.rules.specs.Rules.{judgedOf, shapeOfRecord, recordJudged, offsetOutside, axisCount, firstBad};
 ghost use Rattle.rules.specs.Rules.{isShort, cutShort, imageCut, regionEnd};
 use datatype::Datatype;
 use datatype::Format;
@@ -15,13 +15,13 @@ use header::Kind;
 use offset::Offset;
 use refusal::Refusal;
 
-// The fields that these rules judge.
+// The fields that these rules judge. The one of a single byte is last, so that the compiler copies the others whole.
 pub struct Shape {
-    pub kind: Kind,
     pub dim: [i16; 8],
     pub datatype: i16,
     pub bitpix: i16,
     pub vox_offset: u32,
+    pub kind: Kind,
 }
 
 // Where the image is: the voxel offset as a whole number, and how many bytes there are.
@@ -112,11 +112,29 @@ pub fn judge(shape: Shape, len: usize) -> Judged
     }
 }
 
+// The fields of a record that these rules judge.
+fn shape_of(h: Header) -> Shape
+    ensures { λ r. ⌜ r ≡ shapeOfRecord h ⌝ }
+{
+    let kind = h.kind;
+    let dim = h.dim;
+    let intent = h.intent;
+    let scale = h.scale;
+    Shape {
+        kind,
+        dim,
+        datatype: intent.datatype,
+        bitpix: intent.bitpix,
+        vox_offset: scale.vox_offset,
+    }
+}
+
 // Rules 2 and 5 to 10 of a record.
 pub fn judge_record(h: Header) -> Judged
     ensures { λ r. ⌜ r ≡ recordJudged h ⌝ }
 {
-    let dim = h.dim;
+    let shape = shape_of(h);
+    let dim = shape.dim;
     let n = axis_count(&dim);
     if n < 1 {
         return failed(2, 40);
@@ -124,19 +142,7 @@ pub fn judge_record(h: Header) -> Judged
     if 7 < n {
         return failed(2, 40);
     }
-    let kind = h.kind;
-    let intent = h.intent;
-    let scale = h.scale;
-    judge(
-        Shape {
-            kind,
-            dim,
-            datatype: intent.datatype,
-            bitpix: intent.bitpix,
-            vox_offset: scale.vox_offset,
-        },
-        0,
-    )
+    judge(shape, 0)
 }
 
 // Whether a file of `len` bytes ends before its image does. Offset and bytes are not added: of any two numbers the sum

@@ -12,11 +12,8 @@ returns : tie.Need-returns
 unfolding verdict
 returns c = rw (sym (c .before .cut-short .ensures) ∙ c .if1 .taken)
 
-has-none-requires : tie.Need-has-none-requires
-has-none-requires c κs = search needs
-
-has-extensions-requires : tie.Need-has-extensions-requires
-has-extensions-requires c κs = search needs
+is-extender-requires : tie.Need-is-extender-requires
+is-extender-requires c κs = search needs
 
 cut-extender-requires : tie.Need-cut-extender-requires
 cut-extender-requires c κs = search needs
@@ -25,16 +22,16 @@ returns-2 : tie.Need-returns-2
 unfolding verdict
 returns-2 c =
     let x = c .before in
-    let n = x .before .before in
-    let t = rw (x .cut-extender .ensures, n .has-none .ensures, x .before .has-extensions .ensures) at (c .if2 .taken) in
+    let n = x .before in
+    let t = rw (x .cut-extender .ensures, n .is-extender .ensures) at (c .if2 .taken) in
     simp (sym (n .before .before .cut-short .ensures) ∙ n .before .if1 .left, t)
 
 returns-3 : tie.Need-returns-3
 unfolding verdict
 returns-3 c =
     let x = c .before in
-    let n = x .before .before in
-    let t = rw (x .cut-extender .ensures, n .has-none .ensures, x .before .has-extensions .ensures) at (c .if2 .left) in
+    let n = x .before in
+    let t = rw (x .cut-extender .ensures, n .is-extender .ensures) at (c .if2 .left) in
     simp (sym (n .before .before .cut-short .ensures) ∙ n .before .if1 .left, t)
 
 pub check-end-spec : {M : Type 1} → statement M
@@ -43,8 +40,7 @@ check-end-spec =
     (tie.spec
     cut-short-requires
     returns
-    has-none-requires
-    has-extensions-requires
+    is-extender-requires
     cut-extender-requires
     returns-2
     returns-3)

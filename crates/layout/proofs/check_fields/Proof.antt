@@ -1,10 +1,11 @@
 -- `check_fields` meets its contract: rules 5 to 10, then 11 and 12, by the laws of proofs/Checking.antt.
 use mathlib.Core.Path.{_≡_, sym, _∙_}
+use native.Mathlib.Omega.{arith}
 use denote.Ref.{now}
 use Rattle.rules.specs.declared.Shape.{Shape}
 use Rattle.rules.specs.Rules.{judgedOf}
 use Rattle.layout.specs.File.{shapeIn}
-use Rattle.layout.proofs.Checking.{began, checks-fields, checks-end, checks-all}
+use Rattle.layout.proofs.Checking.{began, began-long, checks-fields, checks-end, checks-all}
 use borrow.Author.Needs.{needs}
 use Rattle.layout.proofs.check_fields.Statement.{statement}
 use Rattle.layout.proofs.check_fields.Tie as tie
@@ -18,7 +19,9 @@ judged-is : (c : tie.After-judge)
 judged-is c = rw (c .before .shape-in .ensures) at (c .judge .ensures)
 
 shape-in-requires : tie.Need-shape-in-requires
-shape-in-requires c κs = search needs
+shape-in-requires c κs =
+    let S = c .before in
+    omega (arith, S .pre .0, began-long (now (S .args .file)) (S .args .len) (S .args .order) (S .args .kind) (S .pre .1))
 
 judge-requires : tie.Need-judge-requires
 judge-requires c κs = search needs
@@ -44,7 +47,7 @@ returns c =
     let S = j .before .before .before in
     let a = S .args in
     let s = now (a .file) in
-    let b = began s (a .len) (a .order) (a .kind) (S .pre) in
+    let b = began s (a .len) (a .order) (a .kind) (S .pre .1) in
     let t = c .before .judged .given in
     checks-fields s (a .len) (a .order) (a .kind) b (t .0 .0) (sym (judged-is j) ∙ t .1)
 
@@ -56,7 +59,7 @@ returns-2 c =
     let S = j .before .before .before in
     let a = S .args in
     let s = now (a .file) in
-    let b = began s (a .len) (a .order) (a .kind) (S .pre) in
+    let b = began s (a .len) (a .order) (a .kind) (S .pre .1) in
     let t = p .judged2 .given in
     let u = c .before .end .given in
     checks-end s (a .len) (a .order) (a .kind) b (t .0 .0) (sym (judged-is j) ∙ t .1) (u .0 .0) (sym (e .check-end .ensures) ∙ u .1)
@@ -69,7 +72,7 @@ returns-3 c =
     let S = j .before .before .before in
     let a = S .args in
     let s = now (a .file) in
-    let b = began s (a .len) (a .order) (a .kind) (S .pre) in
+    let b = began s (a .len) (a .order) (a .kind) (S .pre .1) in
     let t = p .judged2 .given in
     checks-all s (a .len) (a .order) (a .kind) b (t .0 .0) (sym (judged-is j) ∙ t .1) (sym (e .check-end .ensures) ∙ c .enum-told .given .1)
 

@@ -16,7 +16,9 @@ enum-known-start-2 : tie.Need-enum-known-start-2
 enum-known-start-2 c = search needs
 
 check-fields-requires : tie.Need-check-fields-requires
-check-fields-requires c κs = sym (c .before .before .before .start-in .ensures) ∙ c .before .start2 .given .1
+check-fields-requires c κs =
+    let r = c .before .before .before in
+    (r .before .before .pre, sym (r .start-in .ensures) ∙ c .before .start2 .given .1)
 
 returns : tie.Need-returns
 returns c =
