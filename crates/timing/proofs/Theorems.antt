@@ -12,25 +12,25 @@ use lib.Ieee.{Float, binary32, ofBits, round}
 use lib.Ieee.Positive.{num, den}
 use lib.Ieee.Scale.{finite}
 use Rattle.refusal.specs.declared.Refusal.{Refusal}
-use Rattle.header.specs.declared.Header.{Header}
 use Rattle.slices.specs.declared.Time.the-variants.{Finite, Infinite}
 use Rattle.slices.specs.Ranks.{countOf}
 use Rattle.slices.specs.Times.{timeBy, timeOf}
 use Rattle.slices.proofs.RankLaws.{rank-below}
 use Rattle.slices.proofs.TimeLaws.{time-rounded-once}
+use Rattle.timing.specs.declared.Acquisition.{Acquisition}
 use Rattle.timing.specs.declared.Slice.{Slice}
 use Rattle.timing.specs.declared.Slice.the-variants.{Refused, Unstated, Padding, Timed}
-use Rattle.timing.specs.Slices.{isStated, sliceCount, firstSlice, lastSlice, rankAt, timeAt, firstOf, sliceIn}
+use Rattle.timing.specs.Slices.{isStated, sliceCount, firstSlice, lastSlice, rankAt, timeAt, firstOf, sliceBy}
 use Rattle.timing.proofs.Answers.{stated-has, acquired-within, slice-padding}
 
 -- ---- the tests behind a timed answer
-pub record IsTimed (h : Header) (s r : ℕ) (t : Float) : Type 0 where
-  pub stated : isStated h ≡ true
-  pub first : firstSlice h ≤ s
-  pub last : s ≤ lastSlice h
-  pub rank : rankAt h s ≡ r
-  pub time : timeAt h s ≡ t
-  pub reached : finite (timeAt h s) ≡ true
+pub record IsTimed (a : Acquisition) (s r : ℕ) (t : Float) : Type 0 where
+  pub stated : isStated a ≡ true
+  pub first : firstSlice a ≤ s
+  pub last : s ≤ lastSlice a
+  pub rank : rankAt a s ≡ r
+  pub time : timeAt a s ≡ t
+  pub reached : finite (timeAt a s) ≡ true
 
 abbrev pub hasTime : Slice → Bool
 hasTime (Timed r t) = true
@@ -50,44 +50,44 @@ finite-is x t = go (finite x)
     go false e = let z : _≡_ {A = ℕ} 0 1 = cc in absurd (omega arith)
 
 -- "rank × slice_duration, rounded once": of the exact product, where num d / den d is the value of the duration d
-abbrev pub RoundedOnce : Header → ℕ → Float → Type 0
-RoundedOnce h r t =
-    let d = ofBits binary32 (h .display .«slice_duration») in
+abbrev pub RoundedOnce : Acquisition → ℕ → Float → Type 0
+RoundedOnce a r t =
+    let d = ofBits binary32 (a .«slice_duration») in
     t ≡ round binary32 false (r * num d) (den d)
 
 -- ---- the answers
-module _ (h : Header) (s : ℕ) where
-  module _ (r : ℕ) (t : Float) (timed : sliceIn h s ≡ Timed r t) where
-    pub timed-is : IsTimed h s r t
-    unfolding sliceIn firstOf
+module _ (a : Acquisition) (s : ℕ) where
+  module _ (r : ℕ) (t : Float) (timed : sliceBy a s ≡ Timed r t) where
+    pub timed-is : IsTimed a s r t
+    unfolding sliceBy firstOf
     timed-is =
-        let a = passed (not (isStated h)) _ _ (Timed r t) refl refl timed in
-        let b = passed (leb (sliceCount h) s) _ _ (Timed r t) refl refl (a .1) in
-        let c = passed (ltb s (firstSlice h) || ltb (lastSlice h) s) _ _ (Timed r t) refl refl (b .1) in
-        let d = passed (not (finite (timeAt h s))) _ _ (Timed r t) refl refl (c .1) in
-        let o = acquired-within s (firstSlice h) (lastSlice h) (c .0) in
-        let e : _≡_ {A = Slice} (Timed (rankAt h s) (timeAt h s)) (Timed r t) = d .1 in
-        record { stated = not-false _ (a .0); first = o .0; last = o .1; rank = cc; time = cc; reached = not-false _ (d .0) }
+        let b = passed (not (isStated a)) _ _ (Timed r t) refl refl timed in
+        let c = passed (leb (sliceCount a) s) _ _ (Timed r t) refl refl (b .1) in
+        let d = passed (ltb s (firstSlice a) || ltb (lastSlice a) s) _ _ (Timed r t) refl refl (c .1) in
+        let f = passed (not (finite (timeAt a s))) _ _ (Timed r t) refl refl (d .1) in
+        let o = acquired-within s (firstSlice a) (lastSlice a) (d .0) in
+        let e : _≡_ {A = Slice} (Timed (rankAt a s) (timeAt a s)) (Timed r t) = f .1 in
+        record { stated = not-false _ (b .0); first = o .0; last = o .1; rank = cc; time = cc; reached = not-false _ (f .0) }
 
-    pub rank-below-count : r < countOf (firstSlice h) (lastSlice h)
+    pub rank-below-count : r < countOf (firstSlice a) (lastSlice a)
     rank-below-count =
         let w = timed-is in
-        rw (← w .rank) (rank-below (h .scale .«slice_code») (firstSlice h) (lastSlice h) s (w .first) (w .last))
+        rw (← w .rank) (rank-below (a .«slice_code») (firstSlice a) (lastSlice a) s (w .first) (w .last))
 
     -- slice_end is a number of 16 bits
-    pub time-rounded : lastSlice h < 32768 → RoundedOnce h r t
+    pub time-rounded : lastSlice a < 32768 → RoundedOnce a r t
     unfolding timeOf
     time-rounded l =
         let w = timed-is in
-        let d = h .display .«slice_duration» in
-        let answer : timeBy (timeAt h s) ≡ Finite t = rw (w .reached) (ap Finite (w .time)) in
-        let rank : timeOf d (rankAt h s) ≡ timeOf d r = ap (timeOf d) (w .rank) in
-        let rounded = time-rounded-once d r (omega (arith, rank-below-count)) (stated-has h (w .stated) .duration) in
+        let d = a .«slice_duration» in
+        let answer : timeBy (timeAt a s) ≡ Finite t = rw (w .reached) (ap Finite (w .time)) in
+        let rank : timeOf d (rankAt a s) ≡ timeOf d r = ap (timeOf d) (w .rank) in
+        let rounded = time-rounded-once d r (omega (arith, rank-below-count)) (stated-has a (w .stated) .duration) in
         sym (finite-is _ t (sym rounded ∙ sym rank ∙ answer))
 
-  pub outside-padding : isStated h ≡ true → s < sliceCount h → (s < firstSlice h) ⊎ (lastSlice h < s) → sliceIn h s ≡ Padding
-  outside-padding e l (inl o) = sym (slice-padding h s e l (rw (lt-ltb s (firstSlice h) o)))
-  outside-padding e l (inr o) = sym (slice-padding h s e l (rw (lt-ltb (lastSlice h) s o) (or-true (ltb s (firstSlice h)))))
+  pub outside-padding : isStated a ≡ true → s < sliceCount a → (s < firstSlice a) ⊎ (lastSlice a < s) → sliceBy a s ≡ Padding
+  outside-padding e l (inl o) = sym (slice-padding a s e l (rw (lt-ltb s (firstSlice a) o)))
+  outside-padding e l (inr o) = sym (slice-padding a s e l (rw (lt-ltb (lastSlice a) s o) (or-true (ltb s (firstSlice a)))))
 
 -- ---- The numbers of the refusals
 
@@ -106,11 +106,11 @@ either-numbered p true x y a b = a
 either-numbered p false x y a b = b
 
 -- 17 alone
-pub slice-in-number : (h : Header) (s : ℕ) (r : Refusal) → sliceIn h s ≡ Refused r → eqb (r .number) 17 ≡ true
-unfolding sliceIn firstOf
-slice-in-number h s r e =
+pub slice-by-number : (a : Acquisition) (s : ℕ) (r : Refusal) → sliceBy a s ≡ Refused r → eqb (r .number) 17 ≡ true
+unfolding sliceBy firstOf
+slice-by-number a s r e =
     sym (ap (numbered (λ n. eqb n 17)) e)
-    ∙ either-numbered (λ n. eqb n 17) (not (isStated h)) _ _ refl
-    (either-numbered (λ n. eqb n 17) (leb (sliceCount h) s) _ _ refl
-    (either-numbered (λ n. eqb n 17) (ltb s (firstSlice h) || ltb (lastSlice h) s) _ _ refl
-    (either-numbered (λ n. eqb n 17) (not (finite (timeAt h s))) _ _ refl refl)))
+    ∙ either-numbered (λ n. eqb n 17) (not (isStated a)) _ _ refl
+    (either-numbered (λ n. eqb n 17) (leb (sliceCount a) s) _ _ refl
+    (either-numbered (λ n. eqb n 17) (ltb s (firstSlice a) || ltb (lastSlice a) s) _ _ refl
+    (either-numbered (λ n. eqb n 17) (not (finite (timeAt a s))) _ _ refl refl)))

@@ -1,5 +1,5 @@
-// Slice timing, by a record: 01-scope.md, "Slices and positions", first paragraph. How a rank and a time
-// are worked out is for the crate slices; here stand when timing is stated, and which answer comes before which.
+// Slice timing, by the fields that state it or by a record: 01-scope.md, "Slices and positions", first paragraph. How a rank
+// and a time are worked out is for the crate slices; here stand when timing is stated, and which answer comes before which.
 ghost use mathlib.Core.Path.{_≡_};
 ghost use mathlib.Core.Bool.{true};
 ghost use Prim.Native.Nat.{_≤_, _<_};
@@ -7,10 +7,20 @@ ghost use lib.Ieee.{binary32, ofBits};
 ghost use lib.Ieee.Positive.{positive};
 ghost use Rattle.slices.specs.Ranks.{rankIn};
 ghost use Rattle.slices.specs.Times.{timeOf};
-ghost use Rattle.timing.specs.Slices.{sliceDim, acquires, isStated, timedBy, sliceIn};
+ghost use Rattle.timing.specs.Slices.{sliceDim, acquires, isStated, sliceBy, acquisitionOf, sliceIn, timedBy};
 use header::Header;
 use refusal::Refusal;
 use slices::Time;
+
+// The fields that say how the slices were acquired.
+pub struct Acquisition {
+    pub dim: [i16; 8],
+    pub dim_info: u8,
+    pub slice_start: i16,
+    pub slice_end: i16,
+    pub slice_code: u8,
+    pub slice_duration: u32,
+}
 
 // What is answered of a slice: a refusal, that its timing is unstated, that it is padding, or its rank and its time.
 pub enum Slice {
@@ -34,22 +44,18 @@ fn acquires_in(start: i16, end: i16, length: i16) -> bool
     (0 <= start) & (start < end) & (end < length)
 }
 
-// Whether a record states slice timing.
-fn is_stated(header: Header) -> bool
-    ensures { λ r. ⌜ r ≡ isStated header ⌝ }
+// Whether timing is stated.
+fn is_stated(a: Acquisition) -> bool
+    ensures { λ r. ⌜ r ≡ isStated a ⌝ }
 {
-    let dim = header.dim;
-    let key = header.key;
-    let intent = header.intent;
-    let scale = header.scale;
-    let display = header.display;
-    let d = slice_dim(key.dim_info);
-    let code = scale.slice_code;
+    let dim = a.dim;
+    let d = slice_dim(a.dim_info);
+    let code = a.slice_code;
     let axis = (1 <= d) & (d <= 3) & (d <= rules::axis_count(&dim));
     axis
-        & slices::is_positive(display.slice_duration)
+        & slices::is_positive(a.slice_duration)
         & ((1 <= code) & (code <= 6))
-        & acquires_in(intent.slice_start, scale.slice_end, dim[d])
+        & acquires_in(a.slice_start, a.slice_end, dim[d])
 }
 
 // The answer for an acquired slice.
@@ -66,42 +72,64 @@ fn timed(code: u8, start: u16, end: u16, duration: u32, s: u16) -> Slice
 }
 
 // The answer where timing is stated.
-fn slice_stated(header: Header, s: u64) -> Slice
-    requires { ⌜ isStated header ≡ true ⌝ }
-    ensures { λ r. ⌜ r ≡ sliceIn header s ⌝ }
+fn slice_stated(a: Acquisition, s: u64) -> Slice
+    requires { ⌜ isStated a ≡ true ⌝ }
+    ensures { λ r. ⌜ r ≡ sliceBy a s ⌝ }
+{
+    let dim = a.dim;
+    if grid::axis_length(&dim, slice_dim(a.dim_info)) <= s {
+        return Slice::Refused(Refusal {
+            number: 17,
+            place: 0,
+        });
+    }
+    let start = number::natural(a.slice_start);
+    let end = number::natural(a.slice_end);
+    if (s < start) | (end < s) {
+        return Slice::Padding;
+    }
+    timed(
+        a.slice_code,
+        start as u16,
+        end as u16,
+        a.slice_duration,
+        s as u16,
+    )
+}
+
+// The slice s by the fields that say how the slices were acquired. Any fields may be asked.
+pub fn slice_by(a: Acquisition, s: u64) -> Slice
+    ensures { λ r. ⌜ r ≡ sliceBy a s ⌝ }
+{
+    if is_stated(a) {
+        slice_stated(a, s)
+    } else {
+        Slice::Unstated
+    }
+}
+
+// These fields of a record.
+fn acquisition_of(header: Header) -> Acquisition
+    ensures { λ r. ⌜ r ≡ acquisitionOf header ⌝ }
 {
     let dim = header.dim;
     let key = header.key;
     let intent = header.intent;
     let scale = header.scale;
     let display = header.display;
-    if grid::axis_length(&dim, slice_dim(key.dim_info)) <= s {
-        return Slice::Refused(Refusal {
-            number: 17,
-            place: 0,
-        });
+    Acquisition {
+        dim,
+        dim_info: key.dim_info,
+        slice_start: intent.slice_start,
+        slice_end: scale.slice_end,
+        slice_code: scale.slice_code,
+        slice_duration: display.slice_duration,
     }
-    let start = number::natural(intent.slice_start);
-    let end = number::natural(scale.slice_end);
-    if (s < start) | (end < s) {
-        return Slice::Padding;
-    }
-    timed(
-        scale.slice_code,
-        start as u16,
-        end as u16,
-        display.slice_duration,
-        s as u16,
-    )
 }
 
 // The slice s by a record. Any record may be asked.
 pub fn slice_in(header: Header, s: u64) -> Slice
     ensures { λ r. ⌜ r ≡ sliceIn header s ⌝ }
 {
-    if is_stated(header) {
-        slice_stated(header, s)
-    } else {
-        Slice::Unstated
-    }
+    slice_by(acquisition_of(header), s)
 }

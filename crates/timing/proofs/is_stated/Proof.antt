@@ -12,21 +12,21 @@ use Rattle.timing.proofs.is_stated.Tie as tie
 
 -- where the function began, and where slice_dim was taken
 abbrev start : tie.After-slice-dim → tie.Start
-start c = c .before .before .before .before .before .before
+start c = c .before .before
 
 abbrev dim-of : tie.After-acquires-in-arg → tie.After-slice-dim
 dim-of c = c .before .before .before .before
 
 length-same : (c : tie.After-acquires-in-arg)
-    → let z = dimAt (start (dim-of c) .args .header .dim) (dim-of c .slice-dim .result) in toZ w16 (ofZ w16 z) ≡ z
+    → let z = dimAt (start (dim-of c) .args .a .dim) (dim-of c .slice-dim .result) in toZ w16 (ofZ w16 z) ≡ z
 length-same c = search needs
 
 start-same : (c : tie.After-struct-told)
-    → let z = start (dim-of (c .before)) .args .header .intent .«slice_start» in toZ w16 (ofZ w16 z) ≡ z
+    → let z = start (dim-of (c .before)) .args .a .«slice_start» in toZ w16 (ofZ w16 z) ≡ z
 start-same c = search needs
 
 end-same : (c : tie.After-struct-told2)
-    → let z = start (dim-of (c .before .before)) .args .header .scale .«slice_end» in toZ w16 (ofZ w16 z) ≡ z
+    → let z = start (dim-of (c .before .before)) .args .a .«slice_end» in toZ w16 (ofZ w16 z) ≡ z
 end-same c = search needs
 
 slice-dim-requires : tie.Need-slice-dim-requires
@@ -57,13 +57,13 @@ returns c =
     let p = x .before in
     let n = p .before in
     let d = n .before .before in
-    let h = start d .args .header in
+    let a = start d .args .a in
     let k = d .slice-dim .ensures .0 in
-    let length = length-same x ∙ ap (dimAt (h .dim)) k in
+    let length = length-same x ∙ ap (dimAt (a .dim)) k in
     λ i.
     leb 1 (k i) && leb (k i) 3 && leb (k i) (n .axis-count .ensures .0 i)
     && p .is-positive .ensures i
-    && (leb 1 (h .scale .«slice_code») && leb (h .scale .«slice_code») 6)
+    && (leb 1 (a .«slice_code») && leb (a .«slice_code») 6)
     && (c .acquires-in .ensures ∙ (λ j. acquires (start-same (c .before .before) j) (end-same (c .before) j) (length j))) i
 
 pub is-stated-spec : {M : Type 1} → statement M

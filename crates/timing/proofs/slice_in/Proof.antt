@@ -1,23 +1,18 @@
--- `slice_in` meets its contract: a record that states no timing, and then the rest.
-use mathlib.Core.Path.{sym, _∙_}
-use Rattle.timing.proofs.Answers.{slice-unstated}
+-- `slice_in` meets its contract: its answer is by the record's fields.
+use mathlib.Core.Path.{_∙_}
+use Rattle.timing.specs.Slices.{sliceBy}
 use borrow.Author.Needs.{needs}
 use Rattle.timing.proofs.slice_in.Statement.{statement}
 use Rattle.timing.proofs.slice_in.Tie as tie
 
-is-stated-requires : tie.Need-is-stated-requires
-is-stated-requires c κs = search needs
+acquisition-of-requires : tie.Need-acquisition-of-requires
+acquisition-of-requires c κs = search needs
 
-slice-stated-requires : tie.Need-slice-stated-requires
-slice-stated-requires c κs = sym (c .before .is-stated .ensures) ∙ c .if1 .taken
+slice-by-requires : tie.Need-slice-by-requires
+slice-by-requires c κs = search needs
 
 returns : tie.Need-returns
-returns c = search needs
-
-returns-2 : tie.Need-returns-2
-returns-2 c =
-    let a = c .before .before .args in
-    slice-unstated (a .header) (a .s) (sym (c .before .is-stated .ensures) ∙ c .if1 .left)
+returns c = c .slice-by .ensures ∙ (λ i. sliceBy (c .before .acquisition-of .ensures i) (c .before .before .args .s))
 
 pub slice-in-spec : {M : Type 1} → statement M
-slice-in-spec = tie.close (tie.spec is-stated-requires slice-stated-requires returns returns-2)
+slice-in-spec = tie.close (tie.spec acquisition-of-requires slice-by-requires returns)
