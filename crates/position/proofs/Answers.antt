@@ -14,22 +14,22 @@ use Rattle.number.specs.Natural.{naturalOf}
 use Rattle.grid.specs.Grid.{within}
 use Rattle.grid.specs.Axes.{dimAt}
 use Rattle.rules.specs.Rules.{axisCount}
-use Rattle.header.specs.declared.Header.{Header}
 use Rattle.affine.specs.declared.Position.{Position}
 use Rattle.affine.specs.declared.Placed.{Placed}
 use Rattle.affine.specs.declared.Placed.the-variants.{At as Located, NoPosition}
 use Rattle.affine.specs.Method.{finiteRows, finiteResults, positionOf}
+use Rattle.position.specs.declared.Sform.{Sform}
 use Rattle.position.specs.declared.Positioned.{Positioned}
 use Rattle.position.specs.declared.Positioned.the-variants.{At, Refused}
-use Rattle.position.specs.Positions.{lengthAt, threeAxes, SmallIndex, resultsIn, positionIn}
+use Rattle.position.specs.Positions.{lengthAt, threeAxes, SmallIndex, resultsBy, positionBy}
 
 -- what affine places, as an answer
 abbrev pub fromPlaced : Placed → Positioned
 fromPlaced (Located p) = At p
 fromPlaced NoPosition = Refused (refusal 23 0)
 
-abbrev pub placedIn : Header → ℕ → ℕ → ℕ → Placed
-placedIn h i j k = positionOf (h .rows .«srow_x») (h .rows .«srow_y») (h .rows .«srow_z») i j k
+abbrev pub placedBy : Sform → ℕ → ℕ → ℕ → Placed
+placedBy f i j k = positionOf (f .«srow_x») (f .«srow_y») (f .«srow_z») i j k
 
 -- ---- rule 17's axes and indexes
 pub length-stated : (dim : List ℤ) (axis : ℕ) → axis ≤ axisCount dim → naturalOf (dimAt dim axis) ≡ lengthAt dim axis
@@ -54,22 +54,21 @@ module _ (a b c i j k : ℕ) where
       }
 
 -- ---- the answers
-module _ (h : Header) (i j k : ℕ) where
-  pub position-outside : within (threeAxes (h .dim)) (i ∷ j ∷ k ∷ []) ≡ false → Refused (refusal 17 0) ≡ positionIn h i j k
-  unfolding positionIn verdict
+module _ (f : Sform) (i j k : ℕ) where
+  pub position-outside : within (threeAxes (f .dim)) (i ∷ j ∷ k ∷ []) ≡ false → Refused (refusal 17 0) ≡ positionBy f i j k
+  unfolding positionBy verdict
   position-outside o = simp o
 
-  module _ (inside : within (threeAxes (h .dim)) (i ∷ j ∷ k ∷ []) ≡ true) where
-    pub position-unset : leZ (h .quatern .«sform_code») (pos 0) ≡ true → Refused (refusal 23 0) ≡ positionIn h i j k
-    unfolding positionIn verdict
+  module _ (inside : within (threeAxes (f .dim)) (i ∷ j ∷ k ∷ []) ≡ true) where
+    pub position-unset : leZ (f .«sform_code») (pos 0) ≡ true → Refused (refusal 23 0) ≡ positionBy f i j k
+    unfolding positionBy verdict
     position-unset e = simp (inside, e)
 
-    pub position-placed : leZ (h .quatern .«sform_code») (pos 0) ≡ false → fromPlaced (placedIn h i j k) ≡ positionIn h i j k
-    unfolding positionIn verdict positionOf
+    pub position-placed : leZ (f .«sform_code») (pos 0) ≡ false → fromPlaced (placedBy f i j k) ≡ positionBy f i j k
+    unfolding positionBy verdict positionOf
     position-placed e =
-        let r = h .rows in
-        let p = resultsIn h i j k in
-        simp (inside, e) (go (not (finiteRows (r .«srow_x») (r .«srow_y») (r .«srow_z»)) || not (finiteResults p)) p)
+        let p = resultsBy f i j k in
+        simp (inside, e) (go (not (finiteRows (f .«srow_x») (f .«srow_y») (f .«srow_z»)) || not (finiteResults p)) p)
       where
         go : (t : Bool) (p : Position)
             → fromPlaced (decided (cond t (Breaks (refusal 23 0)) Accepted) (Located p) (λ r. NoPosition))
