@@ -25,7 +25,7 @@ use Rattle.voxel.specs.declared.Extent.{Extent}
 use Rattle.voxel.specs.declared.Located.{Located}
 use Rattle.voxel.specs.declared.Located.the-variants.{At, Unlocated}
 use Rattle.voxel.specs.Voxel.{lengthsOf, locatedIn}
-use Rattle.voxel.proofs.Sized.{Formed, record-formed}
+use Rattle.voxel.proofs.Sized.{Formed, shape-formed}
 use Rattle.voxel.proofs.Locating.{Found}
 use Rattle.by_file.specs.Files.{locatedOf, voxelOf}
 use Rattle.by_file.proofs.Voxels.{located-both, file-found, voxel-in-image, voxel-bytes-are, voxel-length, refused-empty}
@@ -54,7 +54,7 @@ module _ (file image index : List ℕ) (a : swapAnswer file image ≡ Accepted) 
 
   -- the byte order is the one field that changes, and no place depends on it
   same-answer : locatedOf file′ image′ index ≡ locatedOf file image index
-  unfolding locatedOf locatedIn
+  unfolding locatedOf
   same-answer = λ i. decided (reads i .verdict) (locatedIn (reads i .header) (swap-lengths file image .1 i) index) Unlocated
 
   -- an index that is refused
@@ -71,8 +71,8 @@ module _ (file image index : List ℕ) (a : swapAnswer file image ≡ Accepted) 
     place-found : Found header (length image) index e
     place-found = file-found file image index e d
 
-    formed : Formed header
-    formed = record-formed header (place-found .rules)
+    formed : Formed (shapeOfRecord header)
+    formed = shape-formed (shapeOfRecord header) (place-found .rules)
 
     abbrev format : Format
     format = formed .format

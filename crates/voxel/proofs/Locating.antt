@@ -1,68 +1,59 @@
--- What rules 16 and 17 decide of a record, rule by rule; and what a place that was answered tells.
+-- What rules 16 and 17 decide of fields, rule by rule; and what a place that was answered tells of a record.
 use Prim.Native.Nat.{ℕ, _+_, _*_}
-use mathlib.Core.Path.{_≡_, ap, sym, _∙_}
+use mathlib.Core.Path.{_≡_, refl, ap, sym, _∙_}
 use mathlib.Core.Bool.{Bool, true, false}
 use mathlib.Core.List.{List}
 use native.Mathlib.Omega.{arith}
 use borrow.Author.Tests.{not-false}
 use Rattle.refusal.specs.declared.Refusal.{Refusal}
-use Rattle.refusal.specs.declared.Verdict.{Verdict}
 use Rattle.refusal.specs.declared.Verdict.the-variants.{Accepted, Refused}
-use Rattle.refusal.specs.Table.{refusal, verdict, decided, then}
-use Rattle.refusal.proofs.Rows.{Clear, none, one, accepted-clear, clear-accepted, verdict-append, clear-split, decided-accepted}
+use Rattle.refusal.specs.Table.{refusal, verdict, decided}
+use Rattle.refusal.proofs.Rows.{Clear, none, one, accepted-clear, verdict-append, clear-split, decided-accepted}
 use Rattle.grid.specs.Grid.{within, voxelNumber}
 use Rattle.header.specs.declared.Header.{Header}
+use Rattle.rules.specs.declared.Shape.{Shape}
 use Rattle.rules.specs.declared.Image.{Image}
-use Rattle.rules.specs.declared.Judged.the-variants.{Passed, Failed}
-use Rattle.rules.specs.Rules.{imageOf, shapeOfRecord, recordRows, recordJudged, imageCut}
-use Rattle.rules.proofs.Passed.{record-passed-is, record-failed-is}
+use Rattle.rules.specs.Rules.{imageOf, shapeRows, shapeOfRecord, recordRows, imageCut}
 use Rattle.voxel.specs.declared.Extent.{Extent}
 use Rattle.voxel.specs.declared.Located.the-variants.{At, Unlocated}
-use Rattle.voxel.specs.Voxel.{lengthsOf, voxelBytes, imageRows, voxelRows, extentOf, locatedIn}
+use Rattle.voxel.specs.Voxel.{lengthsIn, bytesIn, imageRowsIn, voxelRows, extentIn, locatedBy, placedBy}
+use Rattle.voxel.specs.Voxel.{lengthsOf, imageRows, extentOf, locatedIn}
 
 -- what is located is not refused
 pub unlocated-never {ℓ} : {A : Type ℓ} {r : Refusal} {e : Extent} → Unlocated r ≡ At e → A
 unlocated-never d = let z : _≡_ {A = ℕ} 0 1 = cc in absurd (omega arith)
 
-module _ (h : Header) (len : ℕ) (index : List ℕ) where
-  -- the verdicts one after the other
-  by-parts : (v : Verdict) → then (verdict (recordRows h)) (verdict (imageRows h len index)) ≡ v
-      → decided v (At (extentOf h index)) Unlocated ≡ locatedIn h len index
-  unfolding locatedIn
-  by-parts v e =
-      let s = sym (verdict-append (recordRows h) (imageRows h len index) ∙ e) in
-      ap (λ (u : Verdict). decided u (At (extentOf h index)) Unlocated) s
+module _ (f : Shape) (len : ℕ) (index : List ℕ) where
+  -- of fields that their own rules refuse,
+  pub locates-failed : (r : Refusal) → verdict (shapeRows f) ≡ Refused r → Unlocated r ≡ locatedBy f len index
+  unfolding locatedBy
+  locates-failed r e = rw (verdict-append (shapeRows f) (imageRowsIn f len index), e)
 
-  pub locates-failed : (r : Refusal) → recordJudged h ≡ Failed r → Unlocated r ≡ locatedIn h len index
-  locates-failed r e = by-parts (Refused r) (rw (record-failed-is h r e))
+  -- and of those that they pass, where 16 and 17 alone decide
+  pub passed-located : verdict (shapeRows f) ≡ Accepted
+      → locatedBy f len index ≡ decided (verdict (imageRowsIn f len index)) (At (extentIn f index)) Unlocated
+  unfolding locatedBy
+  passed-located e = rw (verdict-append (shapeRows f) (imageRowsIn f len index), e)
 
-  module _ (image : Image) (e : recordJudged h ≡ Passed image) where
-    with-image : (v : Verdict) → verdict (imageRows h len index) ≡ v
-        → then (verdict (recordRows h)) (verdict (imageRows h len index)) ≡ v
-    with-image v d = rw (record-passed-is h image e .0) d
+  module _ (image : Image) (passed : (verdict (shapeRows f) ≡ Accepted) × (imageOf f ≡ image)) where
+    cut-is : (t : Bool) → imageCut (f .kind) len image ≡ t → imageCut (f .kind) len (imageOf f) ≡ t
+    cut-is t d = ap (λ (i : Image). imageCut (f .kind) len i) (passed .1) ∙ d
 
-    cut-is : (t : Bool) → imageCut (h .kind) len image ≡ t → imageCut (h .kind) len (imageOf (shapeOfRecord h)) ≡ t
-    cut-is t d = ap (λ (i : Image). imageCut (h .kind) len i) (record-passed-is h image e .1) ∙ d
-
-    pub locates-16 : imageCut (h .kind) len image ≡ true → Unlocated (refusal 16 0) ≡ locatedIn h len index
+    pub locates-16 : imageCut (f .kind) len image ≡ true → Unlocated (refusal 16 0) ≡ locatedBy f len index
     unfolding verdict
-    locates-16 cut = by-parts (Refused (refusal 16 0)) (with-image (Refused (refusal 16 0)) (rw (cut-is true cut)))
+    locates-16 cut = sym (passed-located (passed .0) ∙ rw (cut-is true cut))
 
-    module _ (whole : imageCut (h .kind) len image ≡ false) where
-      pub locates-17 : within (lengthsOf h) index ≡ false → Unlocated (refusal 17 0) ≡ locatedIn h len index
-      unfolding verdict
-      locates-17 outside =
-          by-parts (Refused (refusal 17 0)) (with-image (Refused (refusal 17 0)) (rw (cut-is false whole, outside)))
-
-      pub locates-at : within (lengthsOf h) index ≡ true
-          → At (record { place = image .offset + voxelBytes h * voxelNumber (lengthsOf h) index; length = voxelBytes h })
-          ≡ locatedIn h len index
-      unfolding verdict
-      locates-at inside =
-          let same = sym (record-passed-is h image e .1) in
-          let before : ℕ = voxelBytes h * voxelNumber (lengthsOf h) index in
-          (λ i. At (record { place = same i .offset + before; length = voxelBytes h }))
-          ∙ by-parts Accepted (with-image Accepted (rw (cut-is false whole, inside)))
+    pub locates-placed : imageCut (f .kind) len image ≡ false → placedBy (f .dim) (f .bitpix) (image .offset) index ≡ locatedBy f len index
+    unfolding verdict
+    locates-placed whole = by (within (lengthsIn f) index) refl
+      where
+        by : (t : Bool) → within (lengthsIn f) index ≡ t → placedBy (f .dim) (f .bitpix) (image .offset) index ≡ locatedBy f len index
+        by true inside =
+            let before : ℕ = bytesIn f * voxelNumber (lengthsIn f) index in
+            rw inside
+            (sym (passed-located (passed .0)
+            ∙ rw (cut-is false whole, inside) (λ i. At (record { place = passed .1 i .offset + before; length = bytesIn f }))))
+        by false outside = rw outside (sym (passed-located (passed .0) ∙ rw (cut-is false whole, outside)))
 
 -- what a place that was answered tells
 pub record Found (h : Header) (len : ℕ) (index : List ℕ) (e : Extent) : Type 0 where
@@ -72,18 +63,12 @@ pub record Found (h : Header) (len : ℕ) (index : List ℕ) (e : Extent) : Type
   pub is : extentOf h index ≡ e
 
 pub found : (h : Header) (len : ℕ) (index : List ℕ) (e : Extent) → locatedIn h len index ≡ At e → Found h len index e
-unfolding locatedIn
+unfolding locatedBy
 found h len index e d =
-    let p = decided-accepted (verdict (voxelRows h len index)) (λ r. unlocated-never) d in
-    let c = clear-split (recordRows h) (accepted-clear (voxelRows h len index) (p .0)) in
+    let p = decided-accepted (verdict (voxelRows (shapeOfRecord h) len index)) (λ r. unlocated-never) d in
+    let c = clear-split (recordRows h) (accepted-clear (voxelRows (shapeOfRecord h) len index) (p .0)) in
     by (c .1) (c .0) (p .1)
   where
     by : Clear (imageRows h len index) → Clear (recordRows h) → At (extentOf h index) ≡ At e → Found h len index e
     by (one whole (one inside none)) rules is =
         record { rules = rules; whole = whole; inside = not-false (within (lengthsOf h) index) inside; is = cc }
-
--- of a record that its own rules pass, 16 and 17 alone decide
-pub passed-located : (h : Header) (len : ℕ) (index : List ℕ) → Clear (recordRows h)
-    → locatedIn h len index ≡ decided (verdict (imageRows h len index)) (At (extentOf h index)) Unlocated
-unfolding locatedIn
-passed-located h len index c = rw (verdict-append (recordRows h) (imageRows h len index), clear-accepted c)

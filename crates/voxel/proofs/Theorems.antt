@@ -16,7 +16,7 @@ use Rattle.rules.specs.declared.Image.{Image}
 use Rattle.rules.specs.Rules.{axisCount, imageOf, shapeOfRecord}
 use Rattle.voxel.specs.declared.Extent.{Extent}
 use Rattle.voxel.specs.declared.Located.the-variants.{At, Unlocated}
-use Rattle.voxel.specs.Voxel.{lengthsOf, voxelBytes, imageRows, voxelRows, extentOf, locatedIn}
+use Rattle.voxel.specs.Voxel.{lengthsOf, voxelBytes, imageRows, voxelRows, extentOf, locatedBy, locatedIn}
 use Rattle.voxel.proofs.Locating.{Found, unlocated-never}
 
 -- its bytes are bytes of the image
@@ -45,8 +45,8 @@ rows-number p rows e r n d =
 
 pub located-in-number : (h : Header) (len : ℕ) (index : List ℕ) (r : Refusal) → locatedIn h len index ≡ Unlocated r
     → recordNumber (r .number) ≡ true
-unfolding locatedIn
-located-in-number h len index r e = rows-number recordNumber (voxelRows h len index) (extentOf h index) r refl e
+unfolding locatedBy
+located-in-number h len index r e = rows-number recordNumber (voxelRows (shapeOfRecord h) len index) (extentOf h index) r refl e
 
 -- of a single file's record the image's rows have 17 alone
 pub single-rows : (h : Header) (len : ℕ) (index : List ℕ) → h .kind ≡ Single

@@ -1,9 +1,9 @@
-// Where a voxel's bytes are, by a record (01-scope.md, "Voxels and byte order", rules 16 and 17). An index is seven
-// numbers, and any unsigned number is taken.
+// Where a voxel's bytes are, by a record or by the fields that are asked for (01-scope.md, "Voxels and byte order",
+// rules 16 and 17). An index is seven numbers, and any unsigned number is taken.
 ghost use mathlib.Core.Path.{_≡_};
 ghost use mathlib.Core.List.{[], _∷_};
 ghost use Rattle.rules.specs.Rules.{recordJudged};
-ghost use Rattle.voxel.specs.Voxel.{locatedIn};
+ghost use Rattle.voxel.specs.Voxel.{locatedIn, Bounded, placedBy};
 use header::Header;
 use refusal::Refusal;
 use rules::Image;
@@ -26,8 +26,27 @@ fn unlocated(number: u64, place: usize) -> Located
     Located::Unlocated(Refusal { number, place })
 }
 
-// Rules 16 and 17 of a record that the rules before them pass, and the voxel's place.
-fn locate_at(header: Header, image: Image, len: usize, index: [u64; 7]) -> Located
+// Rule 17, and the voxel's place, by the fields that these ask for; `offset` is the voxel offset as a whole number.
+pub fn locate_inside(dim: [i16; 8], bitpix: i16, offset: u64, index: [u64; 7]) -> Located
+    requires { ⌜ Bounded dim bitpix offset ⌝ }
+    ensures { λ r. ⌜ r ≡ placedBy dim bitpix offset index ⌝ }
+{
+    let n = rules::axis_count(&dim);
+    let lengths = grid::seven(&dim, n);
+    if !grid::is_within(lengths, index) {
+        return unlocated(17, 0);
+    }
+    // The bytes of a voxel, as bitpix states them.
+    let bytes = number::natural(bitpix) / 8;
+    let before = grid::voxel_number(lengths, index);
+    Located::At(Extent {
+        place: offset + bytes * before,
+        length: bytes,
+    })
+}
+
+// Rules 16 and 17 of a record that the rules before them pass.
+fn locate_passed(header: Header, image: Image, len: usize, index: [u64; 7]) -> Located
     requires { ⌜ recordJudged header ≡ Judged.Passed image ⌝ }
     ensures { λ r. ⌜ r ≡ locatedIn header len index ⌝ }
 {
@@ -36,19 +55,8 @@ fn locate_at(header: Header, image: Image, len: usize, index: [u64; 7]) -> Locat
         return unlocated(16, 0);
     }
     let dim = header.dim;
-    let n = rules::axis_count(&dim);
-    let lengths = grid::seven(&dim, n);
-    if !grid::is_within(lengths, index) {
-        return unlocated(17, 0);
-    }
-    // The bytes of a voxel, as bitpix states them.
     let intent = header.intent;
-    let bytes = number::natural(intent.bitpix) / 8;
-    let before = grid::voxel_number(lengths, index);
-    Located::At(Extent {
-        place: image.offset + bytes * before,
-        length: bytes,
-    })
+    locate_inside(dim, intent.bitpix, image.offset, index)
 }
 
 // The voxel of a record, with an image file of `len` bytes.
@@ -58,7 +66,7 @@ pub fn locate_record(header: Header, len: usize, index: [u64; 7]) -> Located
     let judged = rules::judge_record(header);
     match judged {
         Judged::Failed(r) => Located::Unlocated(r),
-        Judged::Passed(image) => locate_at(header, image, len, index),
+        Judged::Passed(image) => locate_passed(header, image, len, index),
     }
 }
 

@@ -17,8 +17,8 @@ use Rattle.extension.specs.Pieces.{pieces}
 use Rattle.header.specs.Fields.{headerOf}
 use Rattle.layout.specs.File.{holdsIn, orderOf, hasMagic, kindOf, shapeIn, hasNone, hasExtensions, endOf}
 use Rattle.reader.specs.Reading.{judgement, readingOf}
-use Rattle.timing.specs.Slices.{isStated, firstOf, sliceIn}
-use Rattle.voxel.specs.Voxel.{locatedIn}
+use Rattle.timing.specs.Slices.{isStated, firstOf, sliceBy}
+use Rattle.voxel.specs.Voxel.{locatedBy}
 use Rattle.by_file.specs.Files.{locatedOf, sliceOf}
 use Rattle.buffer.specs.Put.{put}
 use Rattle.buffer.specs.Settled.{settled}
@@ -53,7 +53,7 @@ in-a :
     ∷ (17 ∷ 0 ∷ [])
     ∷ []
 unfolding readingOf judgement verdict holdsIn u16At u32At orderOf hasMagic kindOf shapeIn hasNone hasExtensions
-    firstBelow datatypeOf isWhole wholeOf ofBits lt imageBytes voxels axes sevenAxes within voxelNumber locatedIn
+    firstBelow datatypeOf isWhole wholeOf ofBits lt imageBytes voxels axes sevenAxes within voxelNumber locatedBy
     locatedOf headerOf
 in-a = refl
 
@@ -100,7 +100,7 @@ append-voxel :
     ≡ (0 ∷ 378 ∷ 2 ∷ [])
     ∷ []
 unfolding readingOf judgement verdict holdsIn u16At u32At orderOf hasMagic kindOf shapeIn hasNone hasExtensions
-    firstBelow datatypeOf isWhole wholeOf ofBits lt imageBytes voxels axes sevenAxes within voxelNumber locatedIn
+    firstBelow datatypeOf isWhole wholeOf ofBits lt imageBytes voxels axes sevenAxes within voxelNumber locatedBy
     locatedOf headerOf outcomeOf changeVerdict freshFile editedList extensionList exchange stored endOf tailOf
     pieces settled put bytesOf padded offsetBits toBits ofInt extensionsIn walk found sizeRule
 append-voxel = refl
@@ -112,7 +112,7 @@ alt-inc :
     ≡ (1 ∷ 2 ∷ 0 ∷ 2 ∷ 3 ∷ 2 ∷ 1 ∷ 2 ∷ 4 ∷ 2 ∷ 2 ∷ [])
     ∷ []
 unfolding readingOf judgement verdict holdsIn u16At u32At orderOf hasMagic kindOf shapeIn hasNone hasExtensions
-    firstBelow datatypeOf isWhole wholeOf ofBits lt imageBytes voxels axes sliceOf sliceIn firstOf isStated
+    firstBelow datatypeOf isWhole wholeOf ofBits lt imageBytes voxels axes sliceOf sliceBy firstOf isStated
     headerOf mul ofInt orderIn altRank alt2Rank rankOf
 alt-inc = refl
 
@@ -123,7 +123,7 @@ alt-dec2 :
     ≡ (1 ∷ 2 ∷ 4 ∷ 2 ∷ 1 ∷ 2 ∷ 3 ∷ 2 ∷ 0 ∷ 2 ∷ 2 ∷ [])
     ∷ []
 unfolding readingOf judgement verdict holdsIn u16At u32At orderOf hasMagic kindOf shapeIn hasNone hasExtensions
-    firstBelow datatypeOf isWhole wholeOf ofBits lt imageBytes voxels axes sliceOf sliceIn firstOf isStated
+    firstBelow datatypeOf isWhole wholeOf ofBits lt imageBytes voxels axes sliceOf sliceBy firstOf isStated
     headerOf mul ofInt orderIn altRank alt2Rank rankOf
 alt-dec2 = refl
 

@@ -1,5 +1,7 @@
 -- `locate_record` meets its contract: the record's rules, and then the image's.
 use mathlib.Core.Path.{sym, _∙_}
+use Rattle.rules.specs.Rules.{shapeOfRecord}
+use Rattle.rules.proofs.Passed.{record-failed-is}
 use Rattle.voxel.proofs.Locating.{locates-failed}
 use borrow.Author.Needs.{needs}
 use Rattle.voxel.proofs.locate_record.Statement.{statement}
@@ -14,15 +16,16 @@ enum-known-judged c = search needs
 enum-known-judged-2 : tie.Need-enum-known-judged-2
 enum-known-judged-2 c = search needs
 
-locate-at-requires : tie.Need-locate-at-requires
-locate-at-requires c κs = sym (c .before .before .before .judge-record .ensures) ∙ c .before .judged2 .given .1
+locate-passed-requires : tie.Need-locate-passed-requires
+locate-passed-requires c κs = sym (c .before .before .before .judge-record .ensures) ∙ c .before .judged2 .given .1
 
 returns : tie.Need-returns
 returns c =
     let j = c .before .before .before in
     let a = j .before .args in
     let f = c .before .judged .given in
-    locates-failed (a .header) (a .len) (a .index) (f .0 .0) (sym (j .judge-record .ensures) ∙ f .1)
+    let refused = record-failed-is (a .header) (f .0 .0) (sym (j .judge-record .ensures) ∙ f .1) in
+    locates-failed (shapeOfRecord (a .header)) (a .len) (a .index) (f .0 .0) refused
 
 returns-2 : tie.Need-returns-2
 returns-2 c = search needs
@@ -34,6 +37,6 @@ locate-record-spec =
     judge-record-requires
     enum-known-judged
     enum-known-judged-2
-    locate-at-requires
+    locate-passed-requires
     returns
     returns-2)
