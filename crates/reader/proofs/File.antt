@@ -7,14 +7,14 @@ use mathlib.Core.Bool.{Bool, true, false, not, cond, _||_, and-eq-true-iff, fals
 use mathlib.Core.List.{List, [], _∷_}
 use mathlib.Core.Logic.{_↔_}
 use native.Mathlib.Omega.{arith}
-use borrow.Author.Tests.{eqb-true, ltb-false, le-ltb, not-false}
+use borrow.Author.Tests.{eqb-true, ltb-true, ltb-false, lt-ltb, le-ltb, not-false}
 use lib.Dec.{ltb, eqb}
 use lib.IntN.{ℤ, pos, negsuc}
-use lib.ListN.{length}
+use lib.ListN.{length, getD, List·getD-eq-default}
 use Rattle.field.specs.declared.Order.the-variants.{Little, Big}
 use Rattle.field.specs.Numbers.{i32At, joined}
 use Rattle.refusal.specs.declared.Verdict.the-variants.{Accepted}
-use Rattle.refusal.specs.Table.{Row, row, verdict}
+use Rattle.refusal.specs.Table.{verdict}
 use Rattle.refusal.proofs.Rows.{Clear, none, one, accepted-clear, clear-accepted, clear-append, clear-split, decided-accepted, refused-never}
 use Rattle.datatype.specs.Datatypes.{isNumber}
 use Rattle.offset.specs.Offset.{wholeOf, offsetLimit}
@@ -35,9 +35,9 @@ use Rattle.header.proofs.Distinct.{single-never}
 use Rattle.rules.specs.declared.Shape.{Shape}
 use Rattle.rules.specs.declared.Image.{Image}
 use Rattle.rules.specs.Rules.{oneToSeven, offsetOutside, imageOf, cutShort, regionEnd}
-use Rattle.rules.specs.Rules.{fieldRows, shapeOfRecord, recordRows}
+use Rattle.rules.specs.Rules.{fieldRows, shapeRows, shapeOfRecord, recordRows}
 use Rattle.rules.proofs.Passed.{neither, Fields, clear-fields, fields-clear}
-use Rattle.layout.specs.File.{holdsIn, orderOf, sameBytes, hasMagic, kindOf, shapeIn, shapeOf, cutExtender, hasNone, hasExtensions}
+use Rattle.layout.specs.File.{holdsIn, orderOf, sameBytes, hasMagic, kindOf, shapeIn, shapeOf, cutExtender, hasNone, hasExtensions, extenderOf, someExtensions}
 use Rattle.layout.specs.File.{headRows, endRows, fileRows, layoutOf, endOf}
 use Rattle.layout.proofs.Starting.{either, either-kind}
 use Rattle.reader.specs.declared.Reading.{Reading}
@@ -122,6 +122,30 @@ bounds Single image len long nine eleven =
 bounds Pair image len long nine eleven =
     let n = neither (ltb offsetLimit (image .offset)) (ltb offsetLimit len) nine in
     record { behind = long; inside = omega arith; small = ltb-false offsetLimit len (n .1); begins = λ e. single-never (sym e) }
+
+-- a file whose extender says that there are extensions has an extender,
+extended-long : (s : List ℕ) → hasExtensions s ≡ true → 348 < length s
+unfolding hasExtensions
+extended-long s e = by (ltb 348 (length s)) refl
+  where
+    by : (t : Bool) → ltb 348 (length s) ≡ t → 348 < length s
+    by true h = ltb-true 348 (length s) h
+    by false h =
+        let first : getD s 348 0 ≡ 1 = ap (λ (l : List ℕ). getD l 0 0) (same-is (extenderOf s) someExtensions e) in
+        let none : getD s 348 0 ≡ 0 = List·getD-eq-default s 0 (ltb-false 348 (length s) h) in
+        absurd (omega arith)
+
+begins-by : (kind : Kind) (image : Image) (len : ℕ) → Bounds kind image len → 348 < len → cutExtender kind len ≡ false
+    → firstPlace ≤ regionEnd kind image len
+begins-by Single image len b long e = b .begins refl
+begins-by Pair image len b long e = ltb-false len 352 (rw (lt-ltb 348 len long) at e)
+
+-- and their region lies in the file
+pub extended-region : (s : List ℕ) → Rules s → hasExtensions s ≡ true → (firstPlace ≤ endOf s) × (endOf s ≤ length s)
+unfolding endOf shapeIn
+extended-region s r e =
+    let b = bounds (kindOf s) (imageOf (shapeOf s)) (length s) (r .long) (r .fields .inside) (r .whole) in
+    (begins-by (kindOf s) (imageOf (shapeOf s)) (length s) b (extended-long s e) (r .extended), b .inside)
 
 -- ---- What an accepted file is like
 
@@ -266,11 +290,8 @@ no-file : (kind : Kind) (n len : ℕ) → offsetOutside kind n len ≡ false →
 no-file Single n len e = e
 no-file Pair n len e = first-false (ltb offsetLimit n) (ltb offsetLimit len) e
 
--- rules 2 and 5 to 10 of a record with these fields
-abbrev shapeRows : Shape → List Row
-shapeRows f = row 2 (not (oneToSeven (dimAt (f .dim) 0))) 40 ∷ fieldRows f 0
-
-shape-rows : (s : List ℕ) → Rules s → Clear (shapeRows (shapeOf s))
+-- and so the fields of a file that the rules pass make a record that passes
+pub shape-rows : (s : List ℕ) → Rules s → Clear (shapeRows (shapeOf s))
 unfolding shapeIn holdsIn
 shape-rows s r =
     let t = r .fields in

@@ -1,0 +1,18 @@
+-- What a file shows without its record: the same judgement as `readingOf`, with the layout, how many extensions there are and the one
+-- that is wanted; past the last there are zeros. The laws `shown-reading` and `hidden-reading` tie it to the reading of the file.
+use Prim.Native.Nat.{ℕ}
+use mathlib.Core.List.{List}
+use lib.ListN.{length, getD}
+use Rattle.extension.specs.Walk.{Walked, listed, stopped}
+use Rattle.extension.specs.Listing.{noSpan}
+use Rattle.layout.specs.File.{layoutOf}
+use Rattle.reader.specs.Reading.{judgement}
+use Rattle.outline.specs.declared.Outlined.{Outlined}
+use Rattle.outline.specs.declared.Outlined.the-variants.{Shown, Hidden}
+
+abbrev pub outlinedBy : ℕ → List ℕ → Walked → Outlined
+outlinedBy wanted s (listed xs) = Shown (record { layout = layoutOf s; count = length xs; span = getD xs wanted noSpan })
+outlinedBy wanted s (stopped r) = Hidden r
+
+unfoldable pub outlineOf : ℕ → List ℕ → Outlined
+outlineOf wanted s = outlinedBy wanted s (judgement s)
