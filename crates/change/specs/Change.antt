@@ -2,16 +2,13 @@
 -- size of an extension, what these rules ask, where extensions go out and how many bytes come in.
 use Prim.Native.Nat.{ℕ, _+_, _*_, _/_}
 use mathlib.Core.Bool.{Bool, false, not, _&&_}
-use mathlib.Core.List.{List}
 use lib.Dec.{leb, ltb, eqb}
 use lib.IntN.{ℤ, pos}
-use lib.ListN.{getD}
 use lib.Signed.{ltZ}
 use mir.Syntax.{w32}
 use mir.Val.{ofZ}
 use Rattle.extension.specs.declared.Span.{Span}
 use Rattle.extension.specs.Walk.{extensionLimit, firstPlace}
-use Rattle.extension.specs.Listing.{noSpan}
 use Rattle.change.specs.declared.Change.{Change}
 use Rattle.change.specs.declared.Change.the-variants.{Append, Replace, Remove}
 use Rattle.change.specs.declared.Slot.{Slot}
@@ -48,14 +45,20 @@ tooMany Append count = leb extensionLimit count
 tooMany (Replace k) count = false
 tooMany (Remove k) count = false
 
--- where extensions go out and how many bytes, by the spans of a list that ends at `end`
-abbrev pub slotAt : List Span → ℕ → Slot
-slotAt spans k = record { at = getD spans k noSpan .start; old = ofZ w32 (getD spans k noSpan .size) }
+-- the number of the extension that an edit names; an append names none
+abbrev pub namedBy : Change → ℕ
+namedBy Append = 0
+namedBy (Replace k) = k
+namedBy (Remove k) = k
 
-abbrev pub slotOf : Change → List Span → ℕ → Slot
-slotOf Append spans end = record { at = end; old = 0 }
-slotOf (Replace k) spans end = slotAt spans k
-slotOf (Remove k) spans end = slotAt spans k
+-- where extensions go out and how many bytes, by the span that the edit names, in a list that ends at `end`
+abbrev pub slotAt : Span → Slot
+slotAt span = record { at = span .start; old = ofZ w32 (span .size) }
+
+abbrev pub slotOf : Change → Span → ℕ → Slot
+slotOf Append span end = record { at = end; old = 0 }
+slotOf (Replace k) span end = slotAt span
+slotOf (Remove k) span end = slotAt span
 
 -- how many bytes come in, for a payload of n
 abbrev pub newSize : Change → ℕ → ℕ

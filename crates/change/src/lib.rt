@@ -2,8 +2,8 @@
 // many bytes come in (01-scope.md, "Extensions" and "Refusal numbers"). No file is read here.
 ghost use mathlib.Core.Path.{_≡_};
 ghost use Prim.Native.Nat.{min};
-ghost use Rattle.change.specs.Change.{sizeFor, missingIn, offersNegative, entersBytes, tooMany, slotAt, slotOf};
-ghost use Rattle.change.specs.Change.{newSize, sizeCap};
+ghost use Rattle.change.specs.Change.{sizeFor, missingIn, offersNegative, entersBytes, tooMany, namedBy, slotAt};
+ghost use Rattle.change.specs.Change.{slotOf, newSize, sizeCap};
 use extension::FIRST;
 use extension::LIMIT;
 use extension::Span;
@@ -68,25 +68,35 @@ pub fn is_too_many(change: Change, count: usize) -> bool
     }
 }
 
-// Where a numbered extension is.
-fn slot_at(spans: [Span; LIMIT], k: usize) -> Slot
-    ensures { λ r. ⌜ r ≡ slotAt spans k ⌝ }
+// The number of the extension that an edit names; an append names none.
+pub fn number_of(change: Change) -> usize
+    ensures { λ r. ⌜ r ≡ namedBy change ⌝ }
 {
-    let span = listing::span_at(spans, k);
+    match change {
+        Change::Append => 0,
+        Change::Replace(k) => k,
+        Change::Remove(k) => k,
+    }
+}
+
+// Where an extension is.
+fn slot_at(span: Span) -> Slot
+    ensures { λ r. ⌜ r ≡ slotAt span ⌝ }
+{
     Slot {
         at: span.start,
         old: field::bits32(span.size) as usize,
     }
 }
 
-// Where extensions go out, in a list that ends at `end`.
-pub fn slot_for(change: Change, spans: [Span; LIMIT], end: usize) -> Slot
-    ensures { λ r. ⌜ r ≡ slotOf change spans end ⌝ }
+// Where extensions go out, in a list that ends at `end`; `span` is the one that the edit names.
+pub fn slot_for(change: Change, span: Span, end: usize) -> Slot
+    ensures { λ r. ⌜ r ≡ slotOf change span end ⌝ }
 {
     match change {
         Change::Append => Slot { at: end, old: 0 },
-        Change::Replace(k) => slot_at(spans, k),
-        Change::Remove(k) => slot_at(spans, k),
+        Change::Replace(_) => slot_at(span),
+        Change::Remove(_) => slot_at(span),
     }
 }
 

@@ -13,26 +13,28 @@ use mir.Val.{SFits}
 use Rattle.field.specs.declared.Order.{Order}
 use Rattle.field.specs.Numbers.{joined}
 use Rattle.refusal.specs.declared.Refusal.{Refusal}
-use Rattle.refusal.specs.declared.Verdict.the-variants.{Accepted, Refused}
+use Rattle.refusal.specs.declared.Verdict.the-variants.{Accepted}
 use Rattle.refusal.specs.Table.{refusal, verdict}
 use Rattle.refusal.proofs.Rows as rows
 use Rattle.refusal.proofs.Rows.{Clear, accepted-clear, decided-accepted, refused-never}
 use Rattle.offset.specs.Offset.{offsetLimit}
 use Rattle.extension.specs.declared.Span.{Span}
 use Rattle.extension.specs.Walk.{extensionLimit, firstPlace}
-use Rattle.extension.specs.Listing.{spansOf}
 use Rattle.extension.specs.Pieces.{AllComplete, none, one}
-use Rattle.header.specs.Fields.{headerOf}
 use Rattle.rules.specs.Rules.{regionEnd}
 use Rattle.rules.proofs.Passed.{neither}
-use Rattle.layout.specs.File.{orderOf, kindOf, layoutOf, endOf}
-use Rattle.reader.specs.declared.Reading.{Reading}
-use Rattle.reader.specs.Reading.{acceptedWith, readingOf, IsAccepted}
-use Rattle.reader.proofs.File.{AcceptedFile, accepted-file, accepted-reads}
+use Rattle.layout.specs.declared.Layout.{Layout}
+use Rattle.layout.specs.File.{orderOf, endOf}
+use Rattle.reader.specs.Reading.{readingOf, IsAccepted}
+use Rattle.reader.proofs.File.{AcceptedFile, accepted-file}
+use Rattle.outline.specs.declared.Outline.{Outline}
+use Rattle.outline.specs.declared.Outlined.the-variants.{Shown, Hidden}
+use Rattle.outline.specs.Outline.{outlineOf}
+use Rattle.outline.proofs.Outlines.{hidden-reading, Shows, shows, shown-accepted}
 use Rattle.change.specs.declared.Change.{Change}
 use Rattle.change.specs.declared.Change.the-variants.{Append, Replace, Remove}
 use Rattle.change.specs.declared.Slot.{Slot}
-use Rattle.change.specs.Change.{missingIn, offersNegative, entersBytes, tooMany, slotOf, newSize, sizeCap}
+use Rattle.change.specs.Change.{missingIn, offersNegative, entersBytes, tooMany, namedBy, slotOf, newSize, sizeCap}
 use Rattle.edit_plan.specs.declared.Plan.{Plan}
 use Rattle.edit_plan.specs.declared.Planned.{Planned}
 use Rattle.edit_plan.specs.declared.Planned.the-variants.{Go, Stop}
@@ -54,9 +56,9 @@ module _ (f : List ℕ) (room : ℕ) (change : Change) (code : ℤ) (p : List �
   abbrev Answers : Planned → Type 0
   Answers x = x ≡ plannedOf f room change code p
 
-  pub stops-unread : (r : Reading) → r ≡ readingOf f → (q : Refusal) → r .verdict ≡ Refused q → Answers (Stop q)
+  pub stops-unread : (q : Refusal) → outlineOf (namedBy change) f ≡ Hidden q → Answers (Stop q)
   unfolding plannedOf changeVerdict
-  stops-unread r e q v = rw (sym (ap (λ (x : Reading). x .verdict) e) ∙ v)
+  stops-unread q e = rw (hidden-reading f (namedBy change) q e)
 
   module _ (accepted : IsAccepted f) where
     stops-18 : missingIn change (length (extensionList f)) ≡ true → Answers (Stop (refusal 18 0))
@@ -87,7 +89,7 @@ module _ (f : List ℕ) (room : ℕ) (change : Change) (code : ℤ) (p : List �
             unfolding plannedOf changeVerdict verdict
             goes l = simp (accepted, m, n, e, t, l)
 
--- ---- the same by the record of the reading
+-- ---- the same by the outline
 
 -- what is known past rules 18 to 20
 pub record Past (f : List ℕ) (change : Change) (code : ℤ) : Type 0 where
@@ -122,51 +124,51 @@ pub record Numbers (f : List ℕ) (change : Change) (p : List ℕ) (end at old n
   pub old-is : old ≡ bytesOut f change
   pub new-is : new ≡ min (newSize change (length p)) sizeCap
 
-module _ (f : List ℕ) (room : ℕ) (change : Change) (code : ℤ) (p : List ℕ) (r : Reading) (e : r ≡ readingOf f) (accepted : IsAccepted f) where
+module _ (f : List ℕ) (room : ℕ) (change : Change) (code : ℤ) (p : List ℕ) (o : Outline) (e : outlineOf (namedBy change) f ≡ Shown o) where
+  abbrev shown : Shows f (namedBy change) o
+  shown = shows f (namedBy change) o e
+
   abbrev ss : List Span
-  ss = accepted-file f accepted .list
+  ss = shown .list
 
   file : AcceptedFile f ss
-  file = accepted-file f accepted .file
+  file = shown .file
 
-  reads : r ≡ acceptedWith f (layoutOf f) (length ss) (spansOf ss)
-  reads = e ∙ accepted-reads f accepted
+  accepted : IsAccepted f
+  accepted = shown-accepted f (namedBy change) o e
 
   abbrev regionIn : ℕ
-  regionIn = max (regionEnd (r .header .kind) (r .image) (length f)) firstPlace
+  regionIn = max (regionEnd (o .layout .kind) (o .layout .image) (length f)) firstPlace
 
-  count-is : r .header .count ≡ countOf f
-  unfolding headerOf
-  count-is = ap (λ (x : Reading). x .header .count) reads ∙ sym (length-list f ss file)
+  count-is : o .count ≡ countOf f
+  count-is = sym (length-list f ss file ∙ shown .counted)
 
   base-is : regionIn ≡ regionTo f
-  unfolding endOf headerOf
-  base-is = ap (λ (x : Reading). max (regionEnd (x .header .kind) (x .image) (length f)) firstPlace) reads
+  unfolding endOf
+  base-is = ap (λ (l : Layout). max (regionEnd (l .kind) (l .image) (length f)) firstPlace) (sym (shown .layout))
 
-  enters : entersBytes change (r .header .count) regionIn ≡ entersPrivate change f
-  enters = rw (count-is, base-is, length-list f ss file) (enters-is f ss file change)
+  enters : entersBytes change (o .count) regionIn ≡ entersPrivate change f
+  enters = rw (← shown .counted, base-is) (enters-is f ss file change)
 
-  pub on-18 : missingIn change (r .header .count) ≡ true → Stop (refusal 18 0) ≡ plannedOf f room change code p
+  pub on-18 : missingIn change (o .count) ≡ true → Stop (refusal 18 0) ≡ plannedOf f room change code p
   on-18 m = stops-18 f room change code p accepted (rw count-is at m)
 
-  module _ (m : missingIn change (r .header .count) ≡ false) where
+  module _ (m : missingIn change (o .count) ≡ false) where
     pub on-19 : offersNegative change code ≡ true → Stop (refusal 19 0) ≡ plannedOf f room change code p
     on-19 n = stops-19 f room change code p accepted (rw count-is at m) n
 
     module _ (n : offersNegative change code ≡ false) where
-      pub on-20 : entersBytes change (r .header .count) regionIn ≡ true → Stop (refusal 20 0) ≡ plannedOf f room change code p
+      pub on-20 : entersBytes change (o .count) regionIn ≡ true → Stop (refusal 20 0) ≡ plannedOf f room change code p
       on-20 b = stops-20 f room change code p accepted (rw count-is at m) n (sym enters ∙ b)
 
-      pub past : entersBytes change (r .header .count) regionIn ≡ false → Past f change code
+      pub past : entersBytes change (o .count) regionIn ≡ false → Past f change code
       past b = past-by f ss file change code (rw count-is at m) n (sym enters ∙ b)
 
-  pub numbers : (k : Past f change code) (end new : ℕ) (s : Slot) → end ≡ regionIn → s ≡ slotOf change (r .header .spans) end
+  pub numbers : (k : Past f change code) (end new : ℕ) (s : Slot) → end ≡ regionIn → s ≡ slotOf change (o .span) end
       → new ≡ min (newSize change (length p)) sizeCap → Numbers f change p end (s .at) (s .old) new
-  unfolding headerOf
   numbers k end new s ee es en =
       let b : end ≡ regionTo f = ee ∙ base-is in
-      let sp : r .header .spans ≡ spansOf ss = ap (λ (x : Reading). x .header .spans) reads in
-      let q = es ∙ ap (λ (x : List Span). slotOf change x end) sp ∙ slot-is f ss file change end (k .present) (b ∙ k .cut .base) in
+      let q = es ∙ ap (λ (x : Span). slotOf change x end) (sym (shown .span)) ∙ slot-is f ss file change end (k .present) (b ∙ k .cut .base) in
       record {
         end-is = b;
         at-is = ap (λ (x : Slot). x .at) q;
@@ -176,7 +178,7 @@ module _ (f : List ℕ) (room : ℕ) (change : Change) (code : ℤ) (p : List �
 
   module _ (k : Past f change code) (end at old new : ℕ) (v : Numbers f change p end at old new) where
     abbrev muchBy : Bool
-    muchBy = tooMany change (r .header .count) || ltb offsetLimit (end - old + new)
+    muchBy = tooMany change (o .count) || ltb offsetLimit (end - old + new)
 
     much : muchBy ≡ tooMuch (editedList f change code p)
     much = rw (count-is, v .end-is, v .old-is, v .new-is) (much-is f change (k .present) (k .cut) code p (k .few))
@@ -188,7 +190,7 @@ module _ (f : List ℕ) (room : ℕ) (change : Change) (code : ℤ) (p : List �
       -- within the limit the size is the payload's own
       new-whole : new ≡ newSize change (length p)
       new-whole =
-          let l = ltb-false offsetLimit (end - old + new) (neither (tooMany change (r .header .count)) (ltb offsetLimit (end - old + new)) t .1) in
+          let l = ltb-false offsetLimit (end - old + new) (neither (tooMany change (o .count)) (ltb offsetLimit (end - old + new)) t .1) in
           omega (arith, v .new-is)
 
       whole : length (freshOf f change code p) ≡ max (length f) firstPlace - old + new
@@ -200,16 +202,15 @@ module _ (f : List ℕ) (room : ℕ) (change : Change) (code : ℤ) (p : List �
           (rw whole (lt-ltb room (max (length f) firstPlace - old + new) l))
 
       pub on-go : max (length f) firstPlace - old + new ≤ room
-          → Go (record { order = r .header .order; kind = r .header .kind; at = at; old = old; new = new; end = end - old + new })
+          → Go (record { order = o .layout .order; kind = o .layout .kind; at = at; old = old; new = new; end = end - old + new })
           ≡ plannedOf f room change code p
-      unfolding planOf headerOf
+      unfolding planOf
       on-go l =
-          let o : r .header .order ≡ orderOf f = ap (λ (x : Reading). x .header .order) reads in
-          let d : r .header .kind ≡ kindOf f = ap (λ (x : Reading). x .header .kind) reads in
+          let d = sym (shown .layout) in
           let n : new ≡ length (joined (broughtIn (orderOf f) change code p)) = new-whole ∙ sym (length-new (orderOf f) change code p) in
           let x : end - old + new ≡ endFor (editedList f change code p) =
           rw (v .end-is, v .old-is, new-whole) (sym (end-new f change (k .present) (k .cut) code p)) in
-          (λ i. Go (record { order = o i; kind = d i; at = v .at-is i; old = v .old-is i; new = n i; end = x i }))
+          (λ i. Go (record { order = d i .order; kind = d i .kind; at = v .at-is i; old = v .old-is i; new = n i; end = x i }))
           ∙ goes f room change code p accepted (k .present) (k .offered) (k .entered) (sym much ∙ t)
           (rw whole (le-ltb room (max (length f) firstPlace - old + new) l))
 

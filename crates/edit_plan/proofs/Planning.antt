@@ -18,9 +18,7 @@ use Rattle.field.proofs.Stores.{length-bytesOf}
 use Rattle.offset.specs.Offset.{offsetLimit, offsetBits}
 use Rattle.extension.specs.declared.Span.{Span}
 use Rattle.extension.specs.Walk.{extensionLimit, firstPlace, spanAt}
-use Rattle.extension.specs.Listing.{noSpan, spansOf}
-use Rattle.extension.specs.Pieces.{spansFrom}
-use Rattle.extension.proofs.Listings.{spansOf-at}
+use Rattle.extension.specs.Listing.{noSpan}
 use Rattle.extension.proofs.Pieces.{spansFrom-at, complete-at}
 use Rattle.header.specs.declared.Kind.{Kind}
 use Rattle.header.specs.declared.Kind.the-variants.{Single, Pair}
@@ -29,7 +27,7 @@ use Rattle.reader.proofs.File.{AcceptedFile}
 use Rattle.buffer.proofs.Laws.{length-put}
 use Rattle.change.specs.declared.Change.{Change}
 use Rattle.change.specs.declared.Change.the-variants.{Append, Replace, Remove}
-use Rattle.change.specs.Change.{missingIn, entersBytes, tooMany, slotAt, slotOf, newSize, sizeCap}
+use Rattle.change.specs.Change.{missingIn, entersBytes, tooMany, namedBy, slotAt, slotOf, newSize, sizeCap}
 use Rattle.edit_plan.specs.Fresh.{extensionList, tailOf, outFrom, outTo, broughtIn, editedList, extenderFor, endFor, headFor}
 use Rattle.edit_plan.specs.Fresh.{freshFile, freshOf}
 use Rattle.edit_plan.specs.Refusals.{entersPrivate, tooMuch}
@@ -93,20 +91,17 @@ present k n m = ltb-true k n (not-false (ltb k n) m)
 module _ (f : List ℕ) (ss : List Span) (a : AcceptedFile f ss) where
   -- the span of a numbered extension, by the bytes before it
   span-slot : (k : ℕ) → k < countOf f
-      → slotAt (spansOf ss) k ≡ record { at = firstPlace + bytesBefore f k; old = bytesBefore f (k + 1) - bytesBefore f k }
+      → slotAt (getD ss k noSpan) ≡ record { at = firstPlace + bytesBefore f k; old = bytesBefore f (k + 1) - bytesBefore f k }
   span-slot k h =
-      let l = length-list f ss a in
       let x : Span = spanAt (orderOf f) (firstPlace + bytesBefore f k) (getD (extensionList f) k []) in
-      let at : getD (spansFrom (orderOf f) firstPlace (extensionList f)) k noSpan ≡ x =
-      spansFrom-at (orderOf f) firstPlace (extensionList f) k noSpan h in
-      let s : getD (spansOf ss) k noSpan ≡ x = spansOf-at ss k noSpan (omega arith) ∙ rw (list-spans f ss a) at at in
+      let s : getD ss k noSpan ≡ x = rw (list-spans f ss a) at (spansFrom-at (orderOf f) firstPlace (extensionList f) k noSpan h) in
       let w = complete-at (list-complete f ss a) k h in
       let n = before-next (extensionList f) k h in
       let old : ofZ w32 (x .size) ≡ bytesBefore f (k + 1) - bytesBefore f k = rw (w .size) (omega arith) in
       (λ i. record { at = s i .start; old = ofZ w32 (s i .size) }) ∙ (λ i. record { at = x .start; old = old i })
 
   pub slot-is : (change : Change) (end : ℕ) → missingIn change (countOf f) ≡ false → end ≡ firstPlace + length (joined (extensionList f))
-      → slotOf change (spansOf ss) end ≡ record { at = firstPlace + bytesBefore f (outFrom change (countOf f)); old = bytesOut f change }
+      → slotOf change (getD ss (namedBy change) noSpan) end ≡ record { at = firstPlace + bytesBefore f (outFrom change (countOf f)); old = bytesOut f change }
   slot-is Append end m e =
       let at : end ≡ firstPlace + bytesBefore f (countOf f) = rw take-length e in
       let old : 0 ≡ bytesOut f Append = sym (sub-self (bytesBefore f (countOf f))) in

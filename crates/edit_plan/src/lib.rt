@@ -2,15 +2,16 @@
 // rules 18 to 22). Nothing is stored here: an edit is judged whole before its first byte is.
 ghost use mathlib.Core.Path.{_≡_};
 ghost use Rattle.refusal.specs.Table.{refusal};
-ghost use Rattle.reader.specs.Reading.{readingOf, IsAccepted};
+ghost use Rattle.outline.specs.Outline.{outlineOf};
+ghost use Rattle.change.specs.Change.{namedBy};
 ghost use Rattle.edit_plan.specs.Planned.{plannedOf};
 use change::Change;
 use extension::FIRST;
 use field::Order;
 use header::Kind;
-use reader::Reading;
+use outline::Outline;
+use outline::Outlined;
 use refusal::Refusal;
-use refusal::Verdict;
 
 // What an edit is carried out by: at the place `at`, `old` bytes go out and `new` bytes come in, and the region of the
 // extensions then ends at `end`.
@@ -38,21 +39,21 @@ fn stop(number: u64) -> Planned
 // its region ends at 352 at the least.
 fn plan_list(
     file: &[u8],
-    reading: Reading,
+    outline: Outline,
     room: usize,
     change: Change,
     code: i32,
     payload: &[u8],
 ) -> Planned
-    requires { ⌜ (reading ≡ readingOf (now file)) × IsAccepted (now file) ⌝ }
+    requires { ⌜ outlineOf (namedBy change) (now file) ≡ Outlined.Shown outline ⌝ }
     ensures { λ r. ⌜ r ≡ plannedOf (now (file .entry)) room change code (now (payload .entry)) ⌝ }
 {
-    let header = reading.header;
-    let image = reading.image;
-    let order = header.order;
-    let kind = header.kind;
-    let count = header.count;
-    let spans = header.spans;
+    let layout = outline.layout;
+    let order = layout.order;
+    let kind = layout.kind;
+    let image = layout.image;
+    let count = outline.count;
+    let span = outline.span;
     let end = number::greater(rules::region_end(kind, image, file.len()), FIRST);
     if change::is_missing(change, count) {
         return stop(18);
@@ -63,7 +64,7 @@ fn plan_list(
     if change::enters_bytes(change, count, end) {
         return stop(20);
     }
-    let out = change::slot_for(change, spans, end);
+    let out = change::slot_for(change, span, end);
     let at = out.at;
     let old = out.old;
     let new = change::new_size(change, payload.len());
@@ -84,14 +85,13 @@ fn plan_list(
     })
 }
 
-// Reading's rules, and then those of the edit.
+// Reading's rules, and then those of the edit. Of the extensions only the one that the edit names is asked for.
 pub fn plan_edit(file: &[u8], room: usize, change: Change, code: i32, payload: &[u8]) -> Planned
     ensures { λ r. ⌜ r ≡ plannedOf (now (file .entry)) room change code (now (payload .entry)) ⌝ }
 {
-    let reading = reader::read(file);
-    let verdict = reading.verdict;
-    match verdict {
-        Verdict::Refused(r) => Planned::Stop(r),
-        Verdict::Accepted => plan_list(file, reading, room, change, code, payload),
+    let outlined = outline::outline_of(file, change::number_of(change));
+    match outlined {
+        Outlined::Hidden(r) => Planned::Stop(r),
+        Outlined::Shown(o) => plan_list(file, o, room, change, code, payload),
     }
 }

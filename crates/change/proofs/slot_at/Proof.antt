@@ -6,22 +6,18 @@ use borrow.Author.Needs.{needs}
 use Rattle.change.proofs.slot_at.Statement.{statement}
 use Rattle.change.proofs.slot_at.Tie as tie
 
-span-at-requires : tie.Need-span-at-requires
-span-at-requires c κs = search needs
-
 bits32-requires : tie.Need-bits32-requires
 bits32-requires c κs = search needs
 
-cast-t5 : tie.Need-cast-t5
-cast-t5 c = search needs
+cast-t3 : tie.Need-cast-t3
+cast-t3 c = search needs
 
 returns : tie.Need-returns
 returns c =
-    let x = c .before .before .span-at .result in
-    let e = c .before .before .span-at .ensures in
+    let x = c .before .before .args .span in
     let same : toZ w32 (ofZ w32 (x .size)) ≡ x .size = search needs in
     let old : c .bits32 .result ≡ ofZ w32 (x .size) = c .bits32 .ensures ∙ ap (ofZ w32) same in
-    (λ i. record { at = x .start; old = old i }) ∙ (λ i. record { at = e i .start; old = ofZ w32 (e i .size) })
+    λ i. record { at = x .start; old = old i }
 
 pub slot-at-spec : {M : Type 1} → statement M
-slot-at-spec = tie.close (tie.spec span-at-requires bits32-requires cast-t5 returns)
+slot-at-spec = tie.close (tie.spec bits32-requires cast-t3 returns)

@@ -11,7 +11,7 @@ use mir.Syntax.{w32}
 use mir.ValLaws.{toZ-ofZ}
 use Rattle.extension.specs.Walk.{firstPlace}
 use Rattle.rules.specs.Rules.{regionEnd}
-use Rattle.reader.specs.declared.Reading.{Reading}
+use Rattle.outline.specs.declared.Outline.{Outline}
 use Rattle.change.specs.declared.Change.{Change}
 use Rattle.change.specs.Change.{missingIn, offersNegative, entersBytes}
 use Rattle.edit_plan.proofs.Planning.{out-inside}
@@ -28,8 +28,8 @@ start-at g = g .before .before .before .before .before .before .before
 abbrev file-at : tie.After-greater → List ℕ
 file-at g = now (start-at g .args .file)
 
-abbrev reading-at : tie.After-greater → Reading
-reading-at g = start-at g .args .reading
+abbrev outline-at : tie.After-greater → Outline
+outline-at g = start-at g .args .outline
 
 abbrev room-at : tie.After-greater → ℕ
 room-at g = start-at g .args .room
@@ -46,11 +46,11 @@ payload-at g = now (start-at g .args .payload)
 -- ---- what each test told
 
 region-at : (g : tie.After-greater)
-    → g .greater .result ≡ max (regionEnd (reading-at g .header .kind) (reading-at g .image) (length (file-at g))) firstPlace
+    → g .greater .result ≡ max (regionEnd (outline-at g .layout .kind) (outline-at g .layout .image) (length (file-at g))) firstPlace
 region-at g = g .greater .ensures ∙ ap (λ (n : ℕ). max n firstPlace) (g .before .region-end .ensures)
 
 missing-at : (m : tie.After-is-missing) {t : Bool} → m .is-missing .result ≡ t
-    → missingIn (change-at (m .before)) (reading-at (m .before) .header .count) ≡ t
+    → missingIn (change-at (m .before)) (outline-at (m .before) .count) ≡ t
 missing-at m e = sym (m .is-missing .ensures) ∙ e
 
 negative-at : (n : tie.After-offers-negative) {t : Bool} → n .offers-negative .result ≡ t
@@ -63,8 +63,8 @@ abbrev tested-at : tie.After-enters-bytes → tie.After-greater
 tested-at b = b .before .before .before .before .before
 
 enters-at : (b : tie.After-enters-bytes) {t : Bool} → b .enters-bytes .result ≡ t
-    → entersBytes (change-at (tested-at b)) (reading-at (tested-at b) .header .count)
-    (max (regionEnd (reading-at (tested-at b) .header .kind) (reading-at (tested-at b) .image) (length (file-at (tested-at b)))) firstPlace)
+    → entersBytes (change-at (tested-at b)) (outline-at (tested-at b) .count)
+    (max (regionEnd (outline-at (tested-at b) .layout .kind) (outline-at (tested-at b) .layout .image) (length (file-at (tested-at b)))) firstPlace)
     ≡ t
 enters-at b e = rw (region-at (tested-at b)) at (sym (b .enters-bytes .ensures) ∙ e)
 
@@ -77,7 +77,7 @@ past-at : (c : tie.After-new-size) → Past (file-at (numbered-at c)) (change-at
 past-at c =
     let g = numbered-at c in
     let s = start-at g in
-    past (file-at g) (room-at g) (change-at g) (code-at g) (payload-at g) (reading-at g) (s .pre .0) (s .pre .1)
+    past (file-at g) (room-at g) (change-at g) (code-at g) (payload-at g) (outline-at g) (s .pre)
     (missing-at (c .before .before .before .before .before .before .before) (c .before .before .before .before .before .before .if1 .left))
     (negative-at (c .before .before .before .before .before) (c .before .before .before .before .if2 .left))
     (enters-at (c .before .before .before) (c .before .before .if3 .left))
@@ -91,7 +91,7 @@ numbers-at : (c : tie.After-new-size) → Numbers-at c
 numbers-at c =
     let g = numbered-at c in
     let s = start-at g in
-    numbers (file-at g) (room-at g) (change-at g) (code-at g) (payload-at g) (reading-at g) (s .pre .0) (s .pre .1) (past-at c)
+    numbers (file-at g) (room-at g) (change-at g) (code-at g) (payload-at g) (outline-at g) (s .pre) (past-at c)
     (g .greater .result) (c .new-size .result) (c .before .slot-for .result) (region-at g) (c .before .slot-for .ensures) (c .new-size .ensures)
 
 region-end-requires : tie.Need-region-end-requires
@@ -112,7 +112,7 @@ returns c =
     let g = m .before in
     let s = start-at g in
     c .stop .ensures
-    ∙ on-18 (file-at g) (room-at g) (change-at g) (code-at g) (payload-at g) (reading-at g) (s .pre .0) (s .pre .1)
+    ∙ on-18 (file-at g) (room-at g) (change-at g) (code-at g) (payload-at g) (outline-at g) (s .pre)
     (missing-at m (c .before .if1 .taken))
 
 offers-negative-requires : tie.Need-offers-negative-requires
@@ -127,7 +127,7 @@ returns-2 c =
     let g = n .before .before .before in
     let s = start-at g in
     c .stop2 .ensures
-    ∙ on-19 (file-at g) (room-at g) (change-at g) (code-at g) (payload-at g) (reading-at g) (s .pre .0) (s .pre .1)
+    ∙ on-19 (file-at g) (room-at g) (change-at g) (code-at g) (payload-at g) (outline-at g) (s .pre)
     (missing-at (n .before .before) (n .before .if1 .left)) (negative-at n (c .before .if2 .taken))
 
 enters-bytes-requires : tie.Need-enters-bytes-requires
@@ -143,7 +143,7 @@ returns-3 c =
     let g = tested-at b in
     let s = start-at g in
     c .stop3 .ensures
-    ∙ on-20 (file-at g) (room-at g) (change-at g) (code-at g) (payload-at g) (reading-at g) (s .pre .0) (s .pre .1)
+    ∙ on-20 (file-at g) (room-at g) (change-at g) (code-at g) (payload-at g) (outline-at g) (s .pre)
     (missing-at (n .before .before) (n .before .if1 .left)) (negative-at n (b .before .if2 .left)) (enters-at b (c .before .if3 .taken))
 
 slot-for-requires : tie.Need-slot-for-requires
@@ -179,7 +179,7 @@ returns-4 c =
     let s = start-at g in
     let out = n .before .slot-for .result in
     c .stop4 .ensures
-    ∙ on-21 (file-at g) (room-at g) (change-at g) (code-at g) (payload-at g) (reading-at g) (s .pre .0) (s .pre .1) (past-at n)
+    ∙ on-21 (file-at g) (room-at g) (change-at g) (code-at g) (payload-at g) (outline-at g) (s .pre) (past-at n)
     (g .greater .result) (out .at) (out .old) (n .new-size .result) (numbers-at n)
     (rw (c .before .before .is-too-many .ensures) at (c .before .if4 .taken))
 
@@ -208,7 +208,7 @@ returns-5 c =
     let s = start-at g in
     let out = n .before .slot-for .result in
     c .stop5 .ensures
-    ∙ on-22 (file-at g) (room-at g) (change-at g) (code-at g) (payload-at g) (reading-at g) (s .pre .0) (s .pre .1) (past-at n)
+    ∙ on-22 (file-at g) (room-at g) (change-at g) (code-at g) (payload-at g) (outline-at g) (s .pre) (past-at n)
     (g .greater .result) (out .at) (out .old) (n .new-size .result) (numbers-at n)
     (rw (c .before .before .before .before .is-too-many .ensures) at (c .before .before .before .if4 .left))
     (rw (c .before .before .greater2 .ensures) at (c .before .if5 .taken))
@@ -219,7 +219,7 @@ returns-6 c =
     let g = numbered-at n in
     let s = start-at g in
     let out = n .before .slot-for .result in
-    on-go (file-at g) (room-at g) (change-at g) (code-at g) (payload-at g) (reading-at g) (s .pre .0) (s .pre .1) (past-at n)
+    on-go (file-at g) (room-at g) (change-at g) (code-at g) (payload-at g) (outline-at g) (s .pre) (past-at n)
     (g .greater .result) (out .at) (out .old) (n .new-size .result) (numbers-at n)
     (rw (c .before .before .before .is-too-many .ensures) at (c .before .before .if4 .left)) (rw (c .before .greater2 .ensures) at (c .if5 .left))
 
