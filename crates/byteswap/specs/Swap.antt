@@ -3,7 +3,6 @@
 -- bytes, payloads, an image file's front, bytes after the image." So a file is one list of runs (crate units); a run of width 1
 -- stays, and so does what follows the last run. The unit of a file and the runs of its extensions are those of crate turning.
 use Prim.Native.Nat.{ℕ, _-_, _/_}
-use mathlib.Core.Path.{_≡_}
 use mathlib.Core.Bool.{Bool, cond}
 use mathlib.Core.List.{List, [], _∷_, _++_}
 use lib.ListN.{length}
@@ -11,17 +10,14 @@ use Rattle.refusal.specs.declared.Verdict.{Verdict}
 use Rattle.refusal.specs.declared.Verdict.the-variants.{Accepted, Refused}
 use Rattle.refusal.specs.Table.{refusal}
 use Rattle.extension.specs.declared.Span.{Span}
-use Rattle.extension.specs.declared.Listing.{Listing}
 use Rattle.extension.specs.Walk.{Walked, listed, stopped}
-use Rattle.extension.specs.Listing.{listingOf}
 use Rattle.header.specs.declared.Kind.{Kind}
 use Rattle.header.specs.declared.Kind.the-variants.{Single, Pair}
 use Rattle.rules.specs.declared.Image.{Image}
 use Rattle.rules.specs.Rules.{imageCut, regionEnd}
 use Rattle.layout.specs.declared.Layout.{Layout}
-use Rattle.layout.specs.declared.Checked.the-variants.{Fits}
-use Rattle.layout.specs.File.{layoutOf, checkedOf}
-use Rattle.reader.specs.Reading.{extensionsOf, judgement}
+use Rattle.layout.specs.File.{layoutOf}
+use Rattle.reader.specs.Reading.{judgement}
 use Rattle.units.specs.Runs.{Run, run, turnRuns, headerRuns}
 use Rattle.turning.specs.Turn.{unitIn, extensionRuns}
 
@@ -82,11 +78,3 @@ swappedFile file image = turnedFile (swapList file image) (layoutOf file) file
 
 unfoldable pub swappedImage : List ℕ → List ℕ → List ℕ
 swappedImage file image = turnedImage (swapList file image) (layoutOf file) file image
-
--- ---- What the functions need
-
--- a file that rules 1 to 15 pass, with its layout and the listing of its extensions
-pub record Listed (s : List ℕ) (layout : Layout) (listing : Listing) : Type 0 where
-  pub fits : checkedOf s ≡ Fits layout
-  pub lists : listing ≡ listingOf (extensionsOf layout s)
-  pub accepted : listing .verdict ≡ Accepted

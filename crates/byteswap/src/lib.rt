@@ -2,28 +2,26 @@
 // each number of the header, the size and code of each extension, and each swap unit of the image is turned round; all
 // else stays.
 ghost use mathlib.Core.Path.{_≡_};
-ghost use Rattle.layout.specs.declared.Checked.the-variants.{Fits};
-ghost use Rattle.layout.specs.File.{checkedOf};
-ghost use Rattle.byteswap.specs.Swap.{Listed, swapAnswer, swappedFile, swappedImage};
-use extension::Listing;
+ghost use Rattle.outline.specs.Outline.{outlineOf};
+ghost use Rattle.byteswap.specs.Swap.{swapAnswer, swappedFile, swappedImage};
 use header::Kind;
-use layout::Checked;
-use layout::Layout;
+use outline::Outline;
+use outline::Outlined;
 use refusal::Refusal;
 use refusal::Verdict;
 
-// Swaps a file that rules 1 to 15 pass.
-fn swap_listed(file: &mut [u8], image: &mut [u8], layout: Layout, listing: Listing) -> Verdict
-    requires { ⌜ Listed (now file) layout listing ⌝ }
+// Swaps an accepted file.
+fn swap_shown(file: &mut [u8], image: &mut [u8], outline: Outline) -> Verdict
+    requires { ⌜ outlineOf 0 (now file) ≡ Outlined.Shown outline ⌝ }
     ensures { λ r.
         ⌜ (r ≡ swapAnswer (now (file .entry)) (now (image .entry)))
         × (now (file .exit) ≡ swappedFile (now (file .entry)) (now (image .entry)))
         × (now (image .exit) ≡ swappedImage (now (file .entry)) (now (image .entry))) ⌝ }
 {
+    let layout = outline.layout;
     let order = layout.order;
     let kind = layout.kind;
     let place = layout.image;
-    let spans = listing.spans;
     if rules::image_cut(kind, image.len(), place) {
         return Verdict::Refused(Refusal {
             number: 16,
@@ -32,7 +30,7 @@ fn swap_listed(file: &mut [u8], image: &mut [u8], layout: Layout, listing: Listi
     }
     let unit = turning::unit_in(file, order);
     units::turn_header(file);
-    turning::turn_list(file, listing.count, spans);
+    turning::turn_list(file, outline.count, order);
     match kind {
         Kind::Single => {
             turning::turn_image(file, place, unit);
@@ -45,22 +43,6 @@ fn swap_listed(file: &mut [u8], image: &mut [u8], layout: Layout, listing: Listi
     }
 }
 
-// Swaps a file that rules 1 to 12 pass.
-fn swap_checked(file: &mut [u8], image: &mut [u8], layout: Layout) -> Verdict
-    requires { ⌜ checkedOf (now file) ≡ Fits layout ⌝ }
-    ensures { λ r.
-        ⌜ (r ≡ swapAnswer (now (file .entry)) (now (image .entry)))
-        × (now (file .exit) ≡ swappedFile (now (file .entry)) (now (image .entry)))
-        × (now (image .exit) ≡ swappedImage (now (file .entry)) (now (image .entry))) ⌝ }
-{
-    let listing = reader::list_in(file, layout);
-    let verdict = listing.verdict;
-    match verdict {
-        Verdict::Refused(r) => Verdict::Refused(r),
-        Verdict::Accepted => swap_listed(file, image, layout, listing),
-    }
-}
-
 // Swaps the byte order of a file and, of a pair, of its image file. A refused file is left as it is, and so is its
 // image file.
 pub fn swap(file: &mut [u8], image: &mut [u8]) -> Verdict
@@ -69,9 +51,9 @@ pub fn swap(file: &mut [u8], image: &mut [u8]) -> Verdict
         × (now (file .exit) ≡ swappedFile (now (file .entry)) (now (image .entry)))
         × (now (image .exit) ≡ swappedImage (now (file .entry)) (now (image .entry))) ⌝ }
 {
-    let checked = layout::check(file);
-    match checked {
-        Checked::Breaks(r) => Verdict::Refused(r),
-        Checked::Fits(layout) => swap_checked(file, image, layout),
+    let outlined = outline::outline_of(file, 0);
+    match outlined {
+        Outlined::Hidden(r) => Verdict::Refused(r),
+        Outlined::Shown(o) => swap_shown(file, image, o),
     }
 }

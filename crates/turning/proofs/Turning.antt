@@ -1,22 +1,31 @@
--- The loop that turns round the size and code of each extension: what is left to do at each turn.
+-- The loop that turns round the size and code of each extension: what is left to do at each turn. And what a caller needs: the
+-- extensions of an accepted file stand there as the loop asks, and their runs are those of its list (`listed-holds`).
 use mathlib.Core.Path.{_≡_, refl, sym, ap, _∙_}
-use mathlib.Core.List.{List, [], _∷_}
-use Prim.Native.Nat.{ℕ, _+_, _-_, _*_, _≤_, _<_}
+use mathlib.Core.Bool.{Bool, true, false, cond}
+use mathlib.Core.List.{List, [], _++_, append-assoc}
+use Prim.Native.Nat.{ℕ, suc, _+_, _-_, _*_, _≤_}
 use native.Mathlib.Omega.{arith}
-use native.Mathlib.Nat.{suc-ne-zero}
-use native.Mathlib.Numerals.{add-one}
+use native.Mathlib.Nat.{zero-add}
 use lib.IntN.{natAbs}
-use lib.ListN.{length, take, drop, getD, length-drop, take-append-drop}
-use lib.Seq.{drop-cons, getD-take, length-take-le}
+use lib.ListN.{length, take, drop, length-append, length-drop, take-append-drop}
+use lib.Seq.{length-take-le, getD-drop, drop-drop, drop-append-seam}
+use Rattle.field.specs.declared.Order.{Order}
+use Rattle.field.specs.Numbers.{u32At, i32At, joined}
+use Rattle.number.proofs.Lists.{drop-take}
 use Rattle.extension.specs.declared.Span.{Span}
-use Rattle.extension.specs.Walk.{firstPlace}
+use Rattle.extension.specs.Walk.{extensionLimit, firstPlace, listed, restOf, extensionsIn}
 use Rattle.extension.specs.Fills.{Fills, full, next}
-use Rattle.units.specs.Units.{turnedAt}
+use Rattle.extension.specs.Pieces.{Complete, AllComplete, spansFrom}
+use Rattle.extension.specs.Pieces as Pieces
+use Rattle.extension.proofs.Signs.{toZ-low}
+use Rattle.extension.proofs.Regions.{u32-same}
+use Rattle.extension.proofs.Pieces.{i32-front, opened}
+use Rattle.units.specs.Units.{turned, turnedAt}
 use Rattle.units.specs.Runs.{run, turnRuns, turnRunsAt}
-use Rattle.units.proofs.Units.{length-turnedAt}
+use Rattle.units.proofs.Units.{drop-past, length-turned, turned-own}
 use Rattle.units.proofs.Runs.{spanOf}
 use Rattle.units.proofs.Chain.{Chain, chain-next, chain-stay}
-use Rattle.turning.specs.Turn.{extensionRuns, Placed}
+use Rattle.turning.specs.Turn.{extensionRuns, runsIn, Standing, none, one}
 
 -- the runs of extensions span what the extensions fill
 pub fills-span : {at end : ℕ} {xs : List Span} → Fills at end xs → at + spanOf (extensionRuns xs) ≡ end
@@ -24,66 +33,106 @@ unfolding spanOf
 fills-span (full e) = omega arith
 fills-span (next s p f) = omega (arith, p .least, fills-span f)
 
--- spans that fill a region where there are any stand in the file that holds it
-pub placed : (end len : ℕ) (xs : List Span) → (0 < length xs → Fills firstPlace end xs) → end ≤ len → Placed xs len
-placed end len [] fills h = record { end = firstPlace; fills = full refl; room = λ n. absurd (omega arith) }
-placed end len (x ∷ xs) fills h = record { end = end; fills = fills (omega arith); room = λ n. h }
+-- ---- The loop
 
--- `goal` is what the loop comes to in the end; the extensions `left` are still to be turned, from a place on
-pub record Turning (goal : List ℕ) (left : List Span) (buf : List ℕ) : Type 0 where
-  pub at : ℕ
-  pub end : ℕ
-  pub fills : Fills at end left
-  pub room : 0 < length left → end ≤ length buf
-  pub comes : goal ≡ turnRunsAt at (extensionRuns left) buf
+-- `goal` is what the loop comes to in the end; n extensions are still to be turned, from `at` on
+pub record Turning (goal : List ℕ) (order : Order) (n at : ℕ) (buf : List ℕ) : Type 0 where
+  pub stand : Standing order n (drop at buf)
+  pub comes : goal ≡ turnRunsAt at (runsIn order n (drop at buf)) buf
 
-turn-chain : (goal buf : List ℕ) (x : Span) (left : List Span) (t : Turning goal (x ∷ left) buf)
-    → Chain goal (t .at) (extensionRuns (x ∷ left)) buf
-turn-chain goal buf x left t = record { comes = t .comes; room = omega (arith, fills-span (t .fills), t .room (omega arith)) }
+-- the runs of extensions span no more than is there
+standing-span : {order : Order} {n : ℕ} {s : List ℕ} → Standing order n s → spanOf (runsIn order n s) ≤ length s
+unfolding spanOf runsIn
+standing-span none = omega arith
+standing-span {order} (one {n} {s} least room later) = omega (arith, standing-span later, length-drop (u32At order s 0) s)
 
--- where the next one stands
-starts : {at end : ℕ} {x : Span} {left : List Span} → Fills at end (x ∷ left)
-    → (x .start ≡ at) × (16 ≤ natAbs (x .size)) × Fills (at + natAbs (x .size)) end left
-starts (next s p f) = (s, p .least, f)
+-- the number at a place is that of the front of what lies from there on
+number-at : (order : Order) (at : ℕ) (s : List ℕ) → u32At order (drop at s) 0 ≡ u32At order s at
+number-at order at s = u32-same order (drop at s) s 0 at (λ k below. rw zero-add (getD-drop at s k 0))
 
-pub turn-room : (goal buf : List ℕ) (x : Span) (left : List Span) → Turning goal (x ∷ left) buf → x .start + 8 ≤ length buf
-unfolding spanOf
-turn-room goal buf x left t =
-    let f = starts (t .fills) in
-    omega (arith, f .0, f .1, fills-span (f .2), t .room (omega arith))
+-- what follows the units that are turned stays
+behind : (w at n m : ℕ) (l : List ℕ) → at + n * w ≤ length l → at + n * w ≤ m → drop m (turnedAt w at n l) ≡ drop m l
+unfolding turnedAt
+behind w at n m l h b =
+    let d : List ℕ = drop at l in
+    let a : List ℕ = turned w n (take (n * w) d) in
+    let k : ℕ = m - (at + n * w) in
+    let ends : at + n * w + k ≡ m = omega arith in
+    let room : at ≤ length l = omega arith in
+    let size : length a ≡ n * w = length-turned w n (take (n * w) d) ∙ length-take-le (n * w) d (rw length-drop (omega arith)) in
+    rw (← ends, ← drop-drop k (at + n * w) (turnedAt w at n l), ← drop-drop k (at + n * w) l)
+    (ap (drop k) (rw (turned-own w n d, drop-past at (n * w) l a (drop (n * w) d)) (drop-drop (n * w) at l)))
 
--- a turn of the loop
-pub turn-next : (goal buf buf′ : List ℕ) (x : Span) (left : List Span) → Turning goal (x ∷ left) buf
-    → buf′ ≡ turnedAt 4 (x .start) 2 buf → Turning goal left buf′
-turn-next goal buf buf′ x left t e =
-    let f = starts (t .fills) in
-    let m : ℕ = natAbs (x .size) - 8 in
-    let c1 = chain-next (t .at) (run 4 2) _ buf buf′ (turn-chain goal buf x left t) (rw (f .0) at e) in
-    let c2 = chain-stay (t .at + 2 * 4) m _ buf′ c1 in
-    let same : t .at + 2 * 4 + m ≡ t .at + natAbs (x .size) = omega (arith, f .1) in
-    record {
-      at = t .at + natAbs (x .size);
-      end = t .end;
-      fills = f .2;
-      room = λ h. omega (arith, t .room (omega arith), ap length e ∙ length-turnedAt 4 (x .start) 2 buf);
-      comes = rw same at (c2 .comes);
-    }
+-- the one at the front, and those after it
+starts : {order : Order} {n : ℕ} {s : List ℕ} → Standing order (suc n) s
+    → (8 ≤ u32At order s 0) × (u32At order s 0 ≤ length s) × Standing order n (drop (u32At order s 0) s)
+starts (one least room later) = (least, room, later)
+
+module _ {goal : List ℕ} {order : Order} {n at : ℕ} {buf : List ℕ} (t : Turning goal order (suc n) at buf) where
+  -- the next one lies in the buffer
+  pub turn-room : (8 ≤ u32At order buf at) × (at + u32At order buf at ≤ length buf)
+  turn-room =
+      let f = starts (t .stand) in
+      rw (← number-at order at buf) (f .0, omega (arith, f, length-drop at buf))
+
+  turn-chain : Chain goal at (runsIn order (suc n) (drop at buf)) buf
+  turn-chain = record { comes = t .comes; room = omega (arith, turn-room, standing-span (t .stand), length-drop at buf) }
+
+  -- a turn of the loop
+  pub turn-next : (buf′ : List ℕ) → buf′ ≡ turnedAt 4 at 2 buf → Turning goal order n (at + u32At order buf at) buf′
+  unfolding runsIn
+  turn-next buf′ e =
+      let f = starts (t .stand) in
+      let l = length-drop at buf in
+      let size : ℕ = u32At order (drop at buf) 0 in
+      let c = chain-stay (at + 2 * 4) (size - 8) _ buf′ (chain-next at (run 4 2) _ buf buf′ turn-chain e) in
+      let ends : at + 2 * 4 + (size - 8) ≡ at + size = omega arith in
+      let stays = behind 4 at 2 (at + size) buf (omega arith) (omega arith) in
+      let rest : drop (at + size) buf′ ≡ drop size (drop at buf) = rw e stays ∙ sym (drop-drop size at buf) in
+      rw (← number-at order at buf) record { stand = rw rest (f .2); comes = rw rest (rw ends at (c .comes)) }
 
 -- after the last
-pub turn-done : (goal buf : List ℕ) → Turning goal [] buf → buf ≡ goal
-unfolding turnRunsAt turnRuns
-turn-done goal buf t = sym (t .comes ∙ take-append-drop (t .at) buf)
+pub turn-done : {goal : List ℕ} {order : Order} {at : ℕ} {buf : List ℕ} → Turning goal order 0 at buf → buf ≡ goal
+unfolding runsIn turnRunsAt turnRuns
+turn-done {goal} {order} {at} {buf} t = sym (t .comes ∙ take-append-drop at buf)
 
--- the extensions from the k-th on
-pub left-at : (spans : List Span) (count k : ℕ) (z : Span) → k < count → count ≤ length spans
-    → drop k (take count spans) ≡ getD spans k z ∷ drop (k + 1) (take count spans)
-left-at spans count k z h n =
-    let m : k < length (take count spans) = omega (arith, length-take-le count spans n) in
-    rw add-one (drop-cons (take count spans) k z m ∙ rw (getD-take count spans k z h))
+-- ---- What a caller needs
 
-pub drop-all : (k : ℕ) (xs : List Span) → length xs ≤ k → drop k xs ≡ []
-drop-all k xs h = empty (drop k xs) (length-drop k xs ∙ omega arith)
-  where
-    empty : (ys : List Span) → length ys ≡ 0 → ys ≡ []
-    empty [] e = refl
-    empty (y ∷ ys) e = absurd (suc-ne-zero (length ys) e)
+-- the extensions of these spans stand at the front of some bytes
+pub record Holds (order : Order) (s : List ℕ) (xs : List Span) : Type 0 where
+  pub stand : Standing order (length xs) s
+  pub runs : runsIn order (length xs) s ≡ extensionRuns xs
+
+-- an extension states its length
+size-front : {order : Order} {x : List ℕ} (r : List ℕ) → Complete order x → u32At order (x ++ r) 0 ≡ length x
+size-front {order} {x} r w = toZ-low (u32At order (x ++ r) 0) (length x) (i32-front order x r 0 (omega arith) ∙ w .size) .0
+
+holds-none : (order : Order) (s : List ℕ) → Holds order s []
+unfolding runsIn
+holds-none order s = record { stand = none; runs = refl }
+
+-- whole extensions, one after the other, stand there, and their runs are those of their spans
+joined-holds : {order : Order} {xs : List (List ℕ)} (at : ℕ) (s : List ℕ) → AllComplete order xs
+    → Holds order (joined xs ++ s) (spansFrom order at xs)
+unfolding spansFrom runsIn
+joined-holds {order} at s Pieces.none = holds-none order s
+joined-holds {order} at s (Pieces.one {x} {xs} w ws) =
+    let later = joined-holds (at + length x) s ws in
+    let r : List ℕ = joined xs ++ s in
+    let size : u32At order (x ++ r) 0 ≡ length x = size-front r w in
+    let same : natAbs (i32At order x 0) ≡ length x = ap natAbs (w .size) in
+    let least : 8 ≤ u32At order (x ++ r) 0 = omega (arith, w .least) in
+    let room : u32At order (x ++ r) 0 ≤ length (x ++ r) = omega (arith, length-append x r) in
+    let rest : drop (u32At order (x ++ r) 0) (x ++ r) ≡ r = rw size (drop-append-seam x r) in
+    rw append-assoc record { stand = one least room (rw (← rest) at (later .stand)); runs = rw (rest, later .runs, size, same) }
+
+-- the extensions of a file, where its extender says that there are some
+pub listed-holds : (order : Order) (end : ℕ) (file : List ℕ) (xs : List Span) (some : Bool)
+    → cond some (extensionsIn order end file) (listed []) ≡ listed xs → Holds order (drop firstPlace file) xs
+unfolding extensionsIn
+listed-holds order end file xs true e =
+    let rest : List ℕ = drop firstPlace file in
+    let o = opened order extensionLimit firstPlace (restOf file end firstPlace) xs e in
+    let h = joined-holds firstPlace (drop (end - firstPlace) rest) (o .complete) in
+    rw (o .region, o .spans, drop-take, take-append-drop) at h
+listed-holds order end file xs false e = let z : xs ≡ [] = cc in rw z (holds-none order (drop firstPlace file))

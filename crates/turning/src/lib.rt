@@ -1,20 +1,20 @@
 // What a swap turns round beside the header: the size and code of each extension, and the units of the image
-// (01-scope.md, "Voxels and byte order"). The list and the place of the image were read before; no file is judged here.
+// (01-scope.md, "Voxels and byte order"). The file was accepted before; it is not judged here.
 ghost use mathlib.Core.Path.{_≡_};
 ghost use Prim.Native.Nat.{_+_, _/_, _≤_};
-ghost use lib.ListN.{length, take};
-ghost use Rattle.extension.specs.Walk.{extensionLimit, firstPlace};
+ghost use lib.ListN.{length, drop};
+ghost use Rattle.extension.specs.Walk.{firstPlace};
 ghost use Rattle.units.specs.Units.{turnedAt};
 ghost use Rattle.units.specs.Runs.{turnRunsAt};
-ghost use Rattle.turning.specs.Turn.{unitIn, extensionRuns, Placed};
+ghost use Rattle.turning.specs.Turn.{unitIn, runsIn, Standing};
 use datatype::Datatype;
-use extension::LIMIT;
-use extension::Span;
+use extension::FIRST;
 use field::Order;
 use rules::Image;
 
 // The swap unit of a file: that of its datatype.
 pub fn unit_in(file: &[u8], order: Order) -> usize
+    requires { ⌜ 348 ≤ length (now file) ⌝ }
     ensures { λ r. ⌜ r ≡ unitIn order (now (file .entry)) ⌝ }
 {
     let datatype = datatype::datatype_of(field::read_i16(file, 70, order));
@@ -24,15 +24,20 @@ pub fn unit_in(file: &[u8], order: Order) -> usize
     }
 }
 
-// Turns round the size and code of each extension. The spans were read before anything was turned.
-pub fn turn_list(file: &mut [u8], count: usize, spans: [Span; LIMIT])
-    requires { ⌜ (count ≤ extensionLimit) × Placed (take count spans) (length (now file)) ⌝ }
-    ensures { λ _. ⌜ now (file .exit) ≡ turnRunsAt firstPlace (extensionRuns (take count spans)) (now (file .entry)) ⌝ }
+// Turns round the size and code of each of `count` extensions. A size is read, in the order that the file still has
+// there, before it is turned.
+pub fn turn_list(file: &mut [u8], count: usize, order: Order)
+    requires { ⌜ Standing order count (drop firstPlace (now file)) ⌝ }
+    ensures { λ _.
+        ⌜ now (file .exit)
+        ≡ turnRunsAt firstPlace (runsIn order count (drop firstPlace (now (file .entry)))) (now (file .entry)) ⌝ }
 {
+    let mut at = FIRST;
     let mut k: usize = 0;
     while k < count {
-        let span = spans[k];
-        units::turn_units(file, span.start, 2, 4);
+        let size = field::read_u32(file, at, order);
+        units::turn_units(file, at, 2, 4);
+        at = at + size as usize;
         k += 1;
     }
 }

@@ -1,31 +1,32 @@
--- `swap` meets its contract: rules 1 to 12, and then the extensions.
+-- `swap` meets its contract: a refused file refuses the swap.
 use mathlib.Core.Path.{sym, _∙_}
-use Rattle.byteswap.proofs.Answers.{swaps-broken}
+use Rattle.byteswap.proofs.Answers.{swaps-hidden}
 use borrow.Author.Needs.{needs}
 use Rattle.byteswap.proofs.swap.Statement.{statement}
 use Rattle.byteswap.proofs.swap.Tie as tie
 
-check-requires : tie.Need-check-requires
-check-requires c κs = search needs
+outline-of-requires : tie.Need-outline-of-requires
+outline-of-requires c κs = search needs
 
-enum-known-checked : tie.Need-enum-known-checked
-enum-known-checked c = search needs
+enum-known-outlined : tie.Need-enum-known-outlined
+enum-known-outlined c = search needs
 
-enum-known-checked-2 : tie.Need-enum-known-checked-2
-enum-known-checked-2 c = search needs
+enum-known-outlined-2 : tie.Need-enum-known-outlined-2
+enum-known-outlined-2 c = search needs
 
-swap-checked-requires : tie.Need-swap-checked-requires
-swap-checked-requires c κs = sym (c .before .before .before .before .before .check .ensures) ∙ c .before .before .before .checked2 .given .1
+swap-shown-requires : tie.Need-swap-shown-requires
+swap-shown-requires c κs =
+    sym (c .before .before .before .before .before .outline-of .ensures) ∙ c .before .before .before .outlined2 .given .1
 
 same-length : tie.Need-same-length
 same-length c = search needs
 
 returns : tie.Need-returns
 returns c =
-    let breaks = c .before .checked .given in
-    let check = c .before .before .before in
-    let a = check .before .before .before .before .args in
-    swaps-broken (a .file .now) (a .image .now) (breaks .0 .0) (sym (check .check .ensures) ∙ breaks .1)
+    let hidden = c .before .outlined .given in
+    let outline = c .before .before .before in
+    let a = outline .before .before .before .before .args in
+    swaps-hidden (a .file .now) (a .image .now) (hidden .0 .0) (sym (outline .outline-of .ensures) ∙ hidden .1)
 
 same-length-2 : tie.Need-same-length-2
 same-length-2 c = search needs
@@ -40,10 +41,10 @@ pub swap-spec : {M : Type 1} → statement M
 swap-spec =
     tie.close
     (tie.spec
-    check-requires
-    enum-known-checked
-    enum-known-checked-2
-    swap-checked-requires
+    outline-of-requires
+    enum-known-outlined
+    enum-known-outlined-2
+    swap-shown-requires
     same-length
     returns
     same-length-2

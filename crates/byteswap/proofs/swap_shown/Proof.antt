@@ -1,14 +1,16 @@
--- `swap_listed` meets its contract, by the laws of proofs/Answers.antt: what rules 1 to 15 leave known gives each call its room, and the
+-- `swap_shown` meets its contract, by the laws of proofs/Answers.antt: what the outline shows gives each call its room, and the
 -- calls in order are the file's runs.
-use Prim.Native.Nat.{ℕ}
-use mathlib.Core.Path.{sym, _∙_, subst}
+use mathlib.Core.Path.{sym, _∙_}
 use native.Mathlib.Omega.{arith}
-use lib.ListN.{take}
-use Rattle.turning.specs.Turn.{Placed}
-use Rattle.byteswap.proofs.Answers.{file, listed-placed, listed-unit, single-room, pair-room, swaps-cut, swaps-single, swaps-pair}
+use Rattle.outline.proofs.Outlines.{Shows, shows}
+use Rattle.byteswap.proofs.Answers.{file, listed-stand, listed-unit, single-room, pair-room, swaps-cut, swaps-single, swaps-pair}
 use borrow.Author.Needs.{needs}
-use Rattle.byteswap.proofs.swap_listed.Statement.{statement}
-use Rattle.byteswap.proofs.swap_listed.Tie as tie
+use Rattle.byteswap.proofs.swap_shown.Statement.{statement}
+use Rattle.byteswap.proofs.swap_shown.Tie as tie
+
+-- what the outline shows of the file
+known : (start : tie.Start) → Shows (start .args .file .now) 0 (start .args .outline)
+known start = shows (start .args .file .now) 0 (start .args .outline) (start .pre)
 
 image-cut-requires : tie.Need-image-cut-requires
 image-cut-requires c κs = search needs
@@ -16,23 +18,23 @@ image-cut-requires c κs = search needs
 returns : tie.Need-returns
 returns c =
     let start = c .before .before .before .before .before .before in
-    swaps-cut (start .pre) (start .args .image .now) (sym (c .before .image-cut .ensures) ∙ c .if1 .taken)
+    swaps-cut (known start) (start .args .image .now) (sym (c .before .image-cut .ensures) ∙ c .if1 .taken)
 
 unit-in-requires : tie.Need-unit-in-requires
-unit-in-requires c κs = search needs
+unit-in-requires c κs =
+    let start = c .before .before .before .before .before .before .before in
+    file (known start) .rules .long
 
 turn-header-requires : tie.Need-turn-header-requires
 turn-header-requires c κs =
     let start = c .before .before .before .before .before .before .before .before .before in
-    file (start .pre) .rules .long
+    file (known start) .rules .long
 
 turn-list-requires : tie.Need-turn-list-requires
 turn-list-requires c κs =
     let header = c .before .before .before in
     let start = header .before .before .before .before .before .before .before .before .before .before in
-    let listing = start .args .listing in
-    let p = listed-placed (start .pre) in
-    (p .0, subst (λ (n : ℕ). Placed (take (listing .count) (listing .spans)) n) (sym (header .turn-header .kept .0)) (p .1))
+    listed-stand (known start) (header .turn-header .last .0) (header .turn-header .ensures)
 
 enum-told : tie.Need-enum-told
 enum-told c = search needs
@@ -43,8 +45,8 @@ turn-image-requires c κs =
     let header = list .before .before .before .before in
     let unit = header .before .before in
     let start = unit .before .before .before .before .before .before .before .before in (
-      rw (unit .unit-in .ensures) (listed-unit (start .pre)),
-      omega (arith, single-room (start .pre) (c .before .enum-told .given .1), list .turn-list .kept .0, header .turn-header .kept .0),
+      rw (unit .unit-in .ensures) (listed-unit (known start)),
+      omega (arith, single-room (known start) (c .before .enum-told .given .1), list .turn-list .kept .0, header .turn-header .kept .0),
     )
 
 enum-told-2 : tie.Need-enum-told-2
@@ -56,8 +58,8 @@ turn-image-requires-2 c κs =
     let cut = unit .before .before in
     let start = cut .before .before .before .before .before .before in
     let uncut = sym (cut .before .image-cut .ensures) ∙ cut .if1 .left in (
-      rw (unit .unit-in .ensures) (listed-unit (start .pre)),
-      pair-room (start .pre) (start .args .image .now) uncut (c .before .enum-told2 .given .1),
+      rw (unit .unit-in .ensures) (listed-unit (known start)),
+      pair-room (known start) (start .args .image .now) uncut (c .before .enum-told2 .given .1),
     )
 
 same-length : tie.Need-same-length
@@ -73,7 +75,7 @@ returns-2 c =
     let cut = unit .before .before in
     let start = cut .before .before .before .before .before .before in
     let uncut = sym (cut .before .image-cut .ensures) ∙ cut .if1 .left in
-    swaps-single (start .pre) (start .args .image .now) uncut (unit .unit-in .result) (unit .unit-in .ensures) (header .turn-header .last .0)
+    swaps-single (known start) (start .args .image .now) uncut (unit .unit-in .result) (unit .unit-in .ensures) (header .turn-header .last .0)
     (list .turn-list .last .0) (header .turn-header .ensures) (list .turn-list .ensures) (told .enum-told .given .1)
     (image .turn-image .last .0) (image .turn-image .ensures)
 
@@ -93,12 +95,12 @@ returns-3 c =
     let cut = unit .before .before in
     let start = cut .before .before .before .before .before .before in
     let uncut = sym (cut .before .image-cut .ensures) ∙ cut .if1 .left in
-    swaps-pair (start .pre) (start .args .image .now) uncut (unit .unit-in .result) (unit .unit-in .ensures) (header .turn-header .last .0)
+    swaps-pair (known start) (start .args .image .now) uncut (unit .unit-in .result) (unit .unit-in .ensures) (header .turn-header .last .0)
     (list .turn-list .last .0) (header .turn-header .ensures) (list .turn-list .ensures) (told .enum-told2 .given .1)
     (image .turn-image2 .last .0) (image .turn-image2 .ensures)
 
-pub swap-listed-spec : {M : Type 1} → statement M
-swap-listed-spec =
+pub swap-shown-spec : {M : Type 1} → statement M
+swap-shown-spec =
     tie.close
     (tie.spec
     image-cut-requires
