@@ -1,4 +1,5 @@
 -- The theorems on what is asked of a file: voxels, slices, positions.
+mod Shown
 mod Indexes
 pub mod Voxels
 pub mod Slices

@@ -1,5 +1,5 @@
 -- What holds of every position of a file: what the crate position shows of its record, with no hypothesis on the record left.
-use mathlib.Core.Path.{_≡_, sym, subst, _∙_}
+use mathlib.Core.Path.{_≡_}
 use mathlib.Core.Bool.{Bool, true, false, cond, _||_, or-true}
 use mathlib.Core.List.{List, []}
 use Prim.Native.Nat.{ℕ, _<_}
@@ -10,7 +10,6 @@ use Rattle.field.specs.declared.Order.{Order}
 use Rattle.field.specs.declared.Order.the-variants.{Little}
 use Rattle.field.specs.Numbers.{u16At, i16sAt}
 use Rattle.refusal.specs.declared.Refusal.{Refusal}
-use Rattle.refusal.specs.declared.Verdict.the-variants.{Accepted, Refused as Breaks}
 use Rattle.refusal.proofs.Rows.{decided-accepted, between}
 use Rattle.number.specs.Natural.{naturalOf}
 use Rattle.number.proofs.Naturals.{natural-half}
@@ -24,20 +23,10 @@ use Rattle.reader.specs.Reading.{judgement, readingBy, readingOf, IsAccepted}
 use Rattle.reader.proofs.Theorems.{answered-number}
 use Rattle.affine.specs.declared.Position.{Position}
 use Rattle.position.specs.declared.Positioned.the-variants.{At, Refused}
-use Rattle.position.specs.Positions.{lengthAt, positionIn}
-use Rattle.position.proofs.Theorems.{WholeRows, ExactAt, Answered, position-in-exact, IsFinite, position-in-finite}
-use Rattle.position.proofs.Theorems.{unpositioned-never, refused-same, recordNumber, position-in-number}
+use Rattle.position.specs.Positions.{lengthAt, sformOf}
+use Rattle.position.proofs.Theorems.{WholeRows, ExactAt, Answered, position-by-exact, IsFinite, position-by-finite}
+use Rattle.position.proofs.Theorems.{unpositioned-never, refused-same, recordNumber, position-by-number}
 use Rattle.by_file.specs.Files.{positionAt}
-
--- the two answers of `position_of`
-module _ (file : List ℕ) (i j k : ℕ) where
-  pub file-refused : (r : Refusal) → readingOf file .verdict ≡ Breaks r → Refused r ≡ positionAt file i j k
-  unfolding positionAt
-  file-refused r e = rw e
-
-  pub file-answered : readingOf file .verdict ≡ Accepted → positionIn (readingOf file .header) i j k ≡ positionAt file i j k
-  unfolding positionAt
-  file-answered e = rw e
 
 -- the lengths of a file's axes
 axis-half : (dim : List ℤ) (axis : ℕ) → naturalOf (dimAt dim axis) < 32768 → lengthAt dim axis < 32768
@@ -67,24 +56,25 @@ file-half file = go (judgement file)
     go (stopped r) = read-half Little []
 
 -- In the stated case every accepted file has a position for each index inside its axes, and it is the exact whole number.
-pub file-position-exact : (file : List ℕ) (w : WholeRows (readingOf file .header)) (i j k : ℕ)
-    → IsAccepted file → Answered (readingOf file .header) i j k
-    → ExactAt (readingOf file .header) w i j k (positionAt file i j k)
+pub file-position-exact : (file : List ℕ) (w : WholeRows (sformOf (readingOf file .header))) (i j k : ℕ)
+    → IsAccepted file → Answered (sformOf (readingOf file .header)) i j k
+    → ExactAt (sformOf (readingOf file .header)) w i j k (positionAt file i j k)
+unfolding positionAt
 file-position-exact file w i j k e a =
-    let h = readingOf file .header in
-    let f = file-half file in
+    let f = sformOf (readingOf file .header) in
+    let l = file-half file in
     let p = within-both _ _ i _ (a .inside) in
     let q = within-both _ _ j _ (p .1) in
     let r = within-both _ _ k _ (q .1) in
-    subst (ExactAt h w i j k) (file-answered file i j k e)
-    (position-in-exact h w i j k a (omega (arith, p .0, f .0)) (omega (arith, q .0, f .1)) (omega (arith, r .0, f .2)))
+    rw e
+    (position-by-exact f w i j k a (omega (arith, p .0, l .0)) (omega (arith, q .0, l .1)) (omega (arith, r .0, l .2)))
 
 -- Every position is finite.
 pub file-position-finite : (file : List ℕ) (i j k : ℕ) (p : Position) → positionAt file i j k ≡ At p → IsFinite p
 unfolding positionAt
 file-position-finite file i j k p e =
     let d = decided-accepted (readingOf file .verdict) (λ r. unpositioned-never) e in
-    position-in-finite (readingOf file .header) i j k p (d .1)
+    position-by-finite (sformOf (readingOf file .header)) i j k p (d .1)
 
 -- A refusal has a number of 1 to 15, 17 or 23.
 abbrev pub positionNumber : ℕ → Bool
@@ -94,4 +84,4 @@ pub position-number : (file : List ℕ) (i j k : ℕ) (r : Refusal) → position
 unfolding positionAt
 position-number file i j k r e =
     answered-number positionNumber file r (λ n h. rw h) (λ q. refused-same q r)
-    (λ a d. rw (position-in-number (readingOf file .header) i j k r d) (or-true (between 1 15 (r .number)))) e
+    (λ a d. rw (position-by-number (sformOf (readingOf file .header)) i j k r d) (or-true (between 1 15 (r .number)))) e

@@ -12,14 +12,12 @@ use lib.ListN.{length, getD, take, drop, length-take, length-drop}
 use Rattle.field.specs.Numbers.{i16sAt}
 use Rattle.refusal.specs.declared.Refusal.{Refusal}
 use Rattle.refusal.specs.declared.Verdict.the-variants.{Accepted}
-use Rattle.refusal.specs.Table.{Row, row, verdict, decided}
-use Rattle.refusal.proofs.Rows.{none, one, clear-accepted, decided-accepted, decided-refused}
-use Rattle.refusal.proofs.Rows.{between, between-wider, numbers, verdict-number}
+use Rattle.refusal.specs.Table.{row, verdict, decided}
+use Rattle.refusal.proofs.Rows.{none, one, clear-accepted, decided-accepted, between, between-wider}
 use Rattle.grid.specs.Grid.{within}
 use Rattle.grid.specs.Axes.{sevenAxes}
-use Rattle.grid.proofs.Axes.{image-seven, voxel-inside, seven-past}
+use Rattle.grid.proofs.Axes.{image-seven, seven-past}
 use Rattle.grid.proofs.Voxels.{byte-one, byte-some}
-use Rattle.header.specs.declared.Header.{Header}
 use Rattle.header.specs.declared.Kind.{Kind}
 use Rattle.header.specs.declared.Kind.the-variants.{Single, Pair}
 use Rattle.rules.specs.declared.Shape.{Shape}
@@ -32,8 +30,8 @@ use Rattle.reader.proofs.Theorems.{answered-number}
 use Rattle.voxel.specs.declared.Extent.{Extent}
 use Rattle.voxel.specs.declared.Located.{Located}
 use Rattle.voxel.specs.declared.Located.the-variants.{At, Unlocated}
-use Rattle.voxel.specs.Voxel.{lengthsOf, voxelBytes, imageRows, voxelRows, extentOf, locatedIn}
-use Rattle.voxel.proofs.Sized.{record-sized}
+use Rattle.voxel.specs.Voxel.{lengthsOf, voxelBytes, imageRows, voxelRows, extentOf, locatedBy, locatedIn}
+use Rattle.voxel.proofs.Sized.{shape-bounded}
 use Rattle.voxel.proofs.Locating.{Found, found, unlocated-never, passed-located}
 use Rattle.voxel.proofs.Theorems.{Inside, extent-inside, unlocated-same, rows-number, single-rows}
 use Rattle.by_file.specs.Files.{locatedOf, partOf, voxelOf}
@@ -45,7 +43,7 @@ pub accepted-located : (file image index : List ℕ) → IsAccepted file
     ≡ decided (verdict (imageRows (readingOf file .header) (length image) index)) (At (extentOf (readingOf file .header) index)) Unlocated
 unfolding locatedOf
 accepted-located file image index a =
-    rw a (passed-located (readingOf file .header) (length image) index (accepted-record file a))
+    rw a (passed-located (shapeOfRecord (readingOf file .header)) (length image) index (clear-accepted (accepted-record file a)))
 
 -- the file that holds a whole image
 image-held : (kind : Kind) (i : Image) (file image : List ℕ) → cutShort kind (length file) i ≡ false
@@ -76,7 +74,7 @@ module _ (file image index : List ℕ) (e : Extent) (at : locatedOf file image i
 
   -- there are some,
   pub voxel-some : 1 ≤ e .length
-  voxel-some = rw (← file-found .is) (record-sized (readingOf file .header) (file-found .rules) .some)
+  voxel-some = rw (← file-found .is) (shape-bounded (shapeOfRecord (readingOf file .header)) (file-found .rules) .some)
 
   -- and these are handed back.
   pub voxel-bytes-are : voxelOf file image index
@@ -98,7 +96,7 @@ module _ (file image index : List ℕ) (e : Extent) (at : locatedOf file image i
       let n : ℕ = axisCount (readingOf file .header .dim) in
       let d : readingOf file .header .dim ≡ i16sAt (orderOf file) file 40 8 =
       ap (λ (s : Shape). s .dim) (accepted-shape file (located-both file image index e at .0)) in
-      index-seven (orderOf file) file n index (record-sized (readingOf file .header) (f .rules) .axes)
+      index-seven (orderOf file) file n index (shape-bounded (shapeOfRecord (readingOf file .header)) (f .rules) .axes)
       (subst (λ (dim : List ℤ). within (sevenAxes dim n) index ≡ true) d (f .inside))
 
   pub located-past : (k : ℕ) → axisCount (readingOf file .header .dim) ≤ k → getD index k 0 ≡ 0
@@ -164,7 +162,7 @@ module _ (file image : List ℕ) (a : IsAccepted file)
 -- For a single file the image buffer is neither read nor judged.
 module _ (file a b index : List ℕ) (single : readingOf file .header .kind ≡ Single) where
   pub single-located : locatedOf file a index ≡ locatedOf file b index
-  unfolding locatedOf locatedIn
+  unfolding locatedOf locatedBy
   single-located =
       let h = readingOf file .header in
       let i : Image = imageOf (shapeOfRecord h) in
@@ -183,11 +181,11 @@ module _ (file a b index : List ℕ) (single : readingOf file .header .kind ≡ 
 -- of files: 1 to 15, 16 and 17
 pub located-number : (file image index : List ℕ) (r : Refusal) → locatedOf file image index ≡ Unlocated r
     → between 1 17 (r .number) ≡ true
-unfolding locatedOf locatedIn
+unfolding locatedOf locatedBy
 located-number file image index r e =
     let h = readingOf file .header in
     answered-number (between 1 17) file r (λ n. between-wider 1 15 1 17 n refl) (λ q. unlocated-same q r)
-    (λ a. rows-number (between 1 17) (voxelRows h (length image) index) (extentOf h index) r refl) e
+    (λ a. rows-number (between 1 17) (voxelRows (shapeOfRecord h) (length image) index) (extentOf h index) r refl) e
 
 -- and of a single file never 16
 abbrev pub singleNumber : ℕ → Bool
@@ -201,6 +199,6 @@ single-no-16 file image index r single e = answered-number singleNumber file r (
     own : IsAccepted file → locatedIn (readingOf file .header) (length image) index ≡ Unlocated r → singleNumber (r .number) ≡ true
     own a d =
         let h = readingOf file .header in
-        let l = passed-located h (length image) index (accepted-record file a) in
+        let l = passed-located (shapeOfRecord h) (length image) index (clear-accepted (accepted-record file a)) in
         rows-number singleNumber (row 17 (not (within (lengthsOf h) index)) 0 ∷ []) (extentOf h index) r refl
         (rw (single-rows h (length image) index single) at (sym l ∙ d))

@@ -1,32 +1,44 @@
 // What is asked of a file's bytes: a voxel's place and its bytes, a slice, a position (01-scope.md, "Voxels and byte order" and
-// "Slices and positions"). Rules 1 to 15 come first; then the crates voxel, timing and position answer by the file's record.
+// "Slices and positions"). Rules 1 to 15 come first, by the file's outline; then the crates voxel, timing and position answer by the
+// fields that they ask for, and no record is made.
 ghost use mathlib.Core.Path.{_≡_};
 ghost use mathlib.Core.List.{[], _∷_};
 ghost use Prim.Native.Nat.{_+_, _≤_};
 ghost use lib.ListN.{length, take, drop};
-ghost use Rattle.refusal.specs.Table.{decided};
 ghost use Rattle.rules.specs.Rules.{holder};
+ghost use Rattle.reader.specs.Reading.{readingOf};
+ghost use Rattle.outline.specs.Outline.{outlineOf};
 ghost use Rattle.voxel.specs.Voxel.{locatedIn};
-ghost use Rattle.by_file.specs.Files.{locatedOf, voxelOf, sliceOf, positionAt};
+ghost use Rattle.by_file.specs.Files.{locatedOf, voxelOf, acquisitionIn, sliceOf, sformIn, positionAt};
+use field::Order;
 use header::Kind;
+use outline::Outline;
+use outline::Outlined;
 use position::Positioned;
-use reader::Reading;
-use refusal::Verdict;
+use position::Sform;
+use refusal::Refusal;
+use timing::Acquisition;
 use timing::Slice;
 use voxel::Located;
 
-// The voxel of a file that has this reading.
-fn locate_read(reading: Reading, len: usize, index: [u64; 7]) -> Located
-    ensures { λ r. ⌜ r ≡ decided (reading .verdict) (locatedIn (reading .header) len index) Located.Unlocated ⌝ }
+// Rules 16 and 17 of an accepted file, and the voxel's place.
+fn locate_shown(file: &[u8], outline: Outline, len: usize, index: [u64; 7]) -> Located
+    requires { ⌜ outlineOf 0 (now file) ≡ Outlined.Shown outline ⌝ }
+    ensures { λ r. ⌜ r ≡ locatedIn (readingOf (now (file .entry)) .header) len index ⌝ }
 {
-    let verdict = reading.verdict;
-    match verdict {
-        Verdict::Refused(r) => Located::Unlocated(r),
-        Verdict::Accepted => {
-            let header = reading.header;
-            voxel::locate_record(header, len, index)
-        }
+    let layout = outline.layout;
+    let order = layout.order;
+    let kind = layout.kind;
+    let image = layout.image;
+    if rules::image_cut(kind, len, image) {
+        return Located::Unlocated(Refusal {
+            number: 16,
+            place: 0,
+        });
     }
+    let dim = header::dims(file, order);
+    let bitpix = field::read_i16(file, 72, order);
+    voxel::locate_inside(dim, bitpix, image.offset, index)
 }
 
 // The place and length of a voxel's bytes, or the refusal.
@@ -44,11 +56,16 @@ pub fn locate(
     ensures { λ r.
         ⌜ r ≡ locatedOf (now (file .entry)) (now (image .entry)) (i1 ∷ i2 ∷ i3 ∷ i4 ∷ i5 ∷ i6 ∷ i7 ∷ []) ⌝ }
 {
-    locate_read(
-        reader::read(file),
-        image.len(),
-        [i1, i2, i3, i4, i5, i6, i7],
-    )
+    let outlined = outline::outline_of(file, 0);
+    match outlined {
+        Outlined::Hidden(r) => Located::Unlocated(r),
+        Outlined::Shown(outline) => locate_shown(
+            file,
+            outline,
+            image.len(),
+            [i1, i2, i3, i4, i5, i6, i7],
+        ),
+    }
 }
 
 // The n bytes from a place on of the file that holds the image.
@@ -83,21 +100,41 @@ pub fn voxel<'a>(
     ensures { λ r.
         ⌜ now r ≡ voxelOf (now (file .entry)) (now (image .entry)) (i1 ∷ i2 ∷ i3 ∷ i4 ∷ i5 ∷ i6 ∷ i7 ∷ []) ⌝ }
 {
-    let reading = reader::read(file);
-    let located = locate_read(reading, image.len(), [i1, i2, i3, i4, i5, i6, i7]);
-    match located {
-        Located::Unlocated(_) => &file[0..0],
-        Located::At(extent) => {
-            let header = reading.header;
-            let file_kind = header.kind;
-            part(
-                file,
-                image,
-                file_kind,
-                extent.place as usize,
-                extent.length as usize,
-            )
+    let outlined = outline::outline_of(file, 0);
+    match outlined {
+        Outlined::Hidden(_) => &file[0..0],
+        Outlined::Shown(outline) => {
+            let located = locate_shown(file, outline, image.len(), [i1, i2, i3, i4, i5, i6, i7]);
+            match located {
+                Located::Unlocated(_) => &file[0..0],
+                Located::At(extent) => {
+                    let layout = outline.layout;
+                    let kind = layout.kind;
+                    part(
+                        file,
+                        image,
+                        kind,
+                        extent.place as usize,
+                        extent.length as usize,
+                    )
+                }
+            }
         }
+    }
+}
+
+// The fields that slice timing is read from.
+fn acquisition_in(file: &[u8], order: Order) -> Acquisition
+    requires { ⌜ 348 ≤ length (now file) ⌝ }
+    ensures { λ r. ⌜ r ≡ acquisitionIn order (now (file .entry)) ⌝ }
+{
+    Acquisition {
+        dim: header::dims(file, order),
+        dim_info: file[39],
+        slice_start: field::read_i16(file, 74, order),
+        slice_end: field::read_i16(file, 120, order),
+        slice_code: file[122],
+        slice_duration: field::read_u32(file, 132, order),
     }
 }
 
@@ -105,14 +142,28 @@ pub fn voxel<'a>(
 pub fn slice_at(file: &[u8], s: u64) -> Slice
     ensures { λ r. ⌜ r ≡ sliceOf (now (file .entry)) s ⌝ }
 {
-    let reading = reader::read(file);
-    let verdict = reading.verdict;
-    match verdict {
-        Verdict::Refused(r) => Slice::Refused(r),
-        Verdict::Accepted => {
-            let header = reading.header;
-            timing::slice_in(header, s)
+    let outlined = outline::outline_of(file, 0);
+    match outlined {
+        Outlined::Hidden(r) => Slice::Refused(r),
+        Outlined::Shown(outline) => {
+            let layout = outline.layout;
+            let order = layout.order;
+            timing::slice_by(acquisition_in(file, order), s)
         }
+    }
+}
+
+// The fields that Method 3 reads.
+fn sform_in(file: &[u8], order: Order) -> Sform
+    requires { ⌜ 348 ≤ length (now file) ⌝ }
+    ensures { λ r. ⌜ r ≡ sformIn order (now (file .entry)) ⌝ }
+{
+    Sform {
+        dim: header::dims(file, order),
+        sform_code: field::read_i16(file, 254, order),
+        srow_x: header::u32x4(file, 280, order),
+        srow_y: header::u32x4(file, 296, order),
+        srow_z: header::u32x4(file, 312, order),
     }
 }
 
@@ -120,13 +171,13 @@ pub fn slice_at(file: &[u8], s: u64) -> Slice
 pub fn position_of(file: &[u8], i: u64, j: u64, k: u64) -> Positioned
     ensures { λ r. ⌜ r ≡ positionAt (now (file .entry)) i j k ⌝ }
 {
-    let reading = reader::read(file);
-    let verdict = reading.verdict;
-    match verdict {
-        Verdict::Refused(r) => Positioned::Refused(r),
-        Verdict::Accepted => {
-            let header = reading.header;
-            position::position_in(header, i, j, k)
+    let outlined = outline::outline_of(file, 0);
+    match outlined {
+        Outlined::Hidden(r) => Positioned::Refused(r),
+        Outlined::Shown(outline) => {
+            let layout = outline.layout;
+            let order = layout.order;
+            position::position_by(sform_in(file, order), i, j, k)
         }
     }
 }

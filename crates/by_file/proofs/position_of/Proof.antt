@@ -1,42 +1,59 @@
--- `position_of` meets its contract: the reading's refusal, and otherwise its record's answer.
+-- `position_of` meets its contract: a file's refusal, and else the answer by the fields that its outline finds.
 use mathlib.Core.Path.{sym, _∙_}
 use denote.Ref.{now}
-use Rattle.by_file.proofs.Positions.{file-refused, file-answered}
-use Rattle.position.specs.Positions.{positionIn}
+use Rattle.outline.proofs.Outlines.{shown-long}
+use Rattle.position.specs.declared.Positioned.the-variants.{Refused}
+use Rattle.position.specs.Positions.{positionBy}
+use Rattle.by_file.specs.Files.{positionAt}
+use Rattle.by_file.proofs.Shown.{hidden-answer, shown-answer, shown-sform}
 use borrow.Author.Needs.{needs}
 use Rattle.by_file.proofs.position_of.Statement.{statement}
 use Rattle.by_file.proofs.position_of.Tie as tie
 
-read-requires : tie.Need-read-requires
-read-requires c κs = search needs
+outline-of-requires : tie.Need-outline-of-requires
+outline-of-requires c κs = search needs
 
-enum-known-verdict : tie.Need-enum-known-verdict
-enum-known-verdict c = search needs
+enum-known-outlined : tie.Need-enum-known-outlined
+enum-known-outlined c = search needs
 
-enum-told : tie.Need-enum-told
-enum-told c = search needs
+enum-known-outlined-2 : tie.Need-enum-known-outlined-2
+enum-known-outlined-2 c = search needs
 
-position-in-requires : tie.Need-position-in-requires
-position-in-requires c κs = search needs
+sform-in-requires : tie.Need-sform-in-requires
+sform-in-requires c κs =
+    let k = c .before .before .before .before in
+    let t = c .before .before .outlined2 .given in
+    shown-long (now (k .before .before .args .file)) 0 (t .0 .0) (sym (k .outline-of .ensures) ∙ t .1)
+
+position-by-requires : tie.Need-position-by-requires
+position-by-requires c κs = search needs
 
 returns : tie.Need-returns
+unfolding positionAt
 returns c =
-    let r = c .before .before .before in
-    let a = r .before .before .args in
-    let v = c .before .verdict .given in
-    file-refused (now (a .file)) (a .i) (a .j) (a .k) (v .0 .0) (sym (λ n. r .read .ensures n .verdict) ∙ v .1)
+    let k = c .before .before .before in
+    let t = c .before .outlined .given in
+    hidden-answer (now (k .before .before .args .file)) _ Refused (t .0 .0) (sym (k .outline-of .ensures) ∙ t .1)
 
 returns-2 : tie.Need-returns-2
+unfolding positionAt
 returns-2 c =
-    let t = c .before .before in
-    let r = t .before .before in
-    let a = r .before .before .args in
-    let accepted = sym (λ n. r .read .ensures n .verdict) ∙ t .enum-told .given .1 in
-    c .position-in .ensures
-    ∙ (λ n. positionIn (r .read .ensures n .header) (a .i) (a .j) (a .k))
-    ∙ file-answered (now (a .file)) (a .i) (a .j) (a .k) accepted
+    let k = c .before .before .before .before .before .before in
+    let a = k .before .before .args in
+    let t = c .before .before .before .before .outlined2 .given in
+    let shown = sym (k .outline-of .ensures) ∙ t .1 in
+    c .position-by .ensures
+    ∙ (λ n. positionBy ((c .before .sform-in .ensures ∙ shown-sform (now (a .file)) (t .0 .0) shown) n) (a .i) (a .j) (a .k))
+    ∙ shown-answer (now (a .file)) _ Refused (t .0 .0) shown
 
 pub position-of-spec : {M : Type 1} → statement M
 position-of-spec =
     tie.close
-    (tie.spec read-requires enum-known-verdict enum-told position-in-requires returns returns-2)
+    (tie.spec
+    outline-of-requires
+    enum-known-outlined
+    enum-known-outlined-2
+    sform-in-requires
+    position-by-requires
+    returns
+    returns-2)

@@ -1,41 +1,59 @@
--- `slice_at` meets its contract: the reading's refusal, and otherwise its record's answer.
+-- `slice_at` meets its contract: a file's refusal, and else the answer by the fields that its outline finds.
 use mathlib.Core.Path.{sym, _∙_}
 use denote.Ref.{now}
-use Rattle.by_file.proofs.Slices.{file-refused, file-answered}
-use Rattle.timing.specs.Slices.{sliceIn}
+use Rattle.outline.proofs.Outlines.{shown-long}
+use Rattle.timing.specs.declared.Slice.the-variants.{Refused}
+use Rattle.timing.specs.Slices.{sliceBy}
+use Rattle.by_file.specs.Files.{sliceOf}
+use Rattle.by_file.proofs.Shown.{hidden-answer, shown-answer, shown-acquisition}
 use borrow.Author.Needs.{needs}
 use Rattle.by_file.proofs.slice_at.Statement.{statement}
 use Rattle.by_file.proofs.slice_at.Tie as tie
 
-read-requires : tie.Need-read-requires
-read-requires c κs = search needs
+outline-of-requires : tie.Need-outline-of-requires
+outline-of-requires c κs = search needs
 
-enum-known-verdict : tie.Need-enum-known-verdict
-enum-known-verdict c = search needs
+enum-known-outlined : tie.Need-enum-known-outlined
+enum-known-outlined c = search needs
 
-enum-told : tie.Need-enum-told
-enum-told c = search needs
+enum-known-outlined-2 : tie.Need-enum-known-outlined-2
+enum-known-outlined-2 c = search needs
 
-slice-in-requires : tie.Need-slice-in-requires
-slice-in-requires c κs = search needs
+acquisition-in-requires : tie.Need-acquisition-in-requires
+acquisition-in-requires c κs =
+    let k = c .before .before .before .before in
+    let t = c .before .before .outlined2 .given in
+    shown-long (now (k .before .before .args .file)) 0 (t .0 .0) (sym (k .outline-of .ensures) ∙ t .1)
+
+slice-by-requires : tie.Need-slice-by-requires
+slice-by-requires c κs = search needs
 
 returns : tie.Need-returns
+unfolding sliceOf
 returns c =
     let k = c .before .before .before in
-    let a = k .before .before .args in
-    let v = c .before .verdict .given in
-    file-refused (now (a .file)) (a .s) (v .0 .0) (sym (λ i. k .read .ensures i .verdict) ∙ v .1)
+    let t = c .before .outlined .given in
+    hidden-answer (now (k .before .before .args .file)) _ Refused (t .0 .0) (sym (k .outline-of .ensures) ∙ t .1)
 
 returns-2 : tie.Need-returns-2
+unfolding sliceOf
 returns-2 c =
-    let t = c .before .before in
-    let k = t .before .before in
+    let k = c .before .before .before .before .before .before in
     let a = k .before .before .args in
-    c .slice-in .ensures
-    ∙ (λ i. sliceIn (k .read .ensures i .header) (a .s))
-    ∙ file-answered (now (a .file)) (a .s) (sym (λ i. k .read .ensures i .verdict) ∙ t .enum-told .given .1)
+    let t = c .before .before .before .before .outlined2 .given in
+    let shown = sym (k .outline-of .ensures) ∙ t .1 in
+    c .slice-by .ensures
+    ∙ (λ n. sliceBy ((c .before .acquisition-in .ensures ∙ shown-acquisition (now (a .file)) (t .0 .0) shown) n) (a .s))
+    ∙ shown-answer (now (a .file)) _ Refused (t .0 .0) shown
 
 pub slice-at-spec : {M : Type 1} → statement M
 slice-at-spec =
     tie.close
-    (tie.spec read-requires enum-known-verdict enum-told slice-in-requires returns returns-2)
+    (tie.spec
+    outline-of-requires
+    enum-known-outlined
+    enum-known-outlined-2
+    acquisition-in-requires
+    slice-by-requires
+    returns
+    returns-2)
