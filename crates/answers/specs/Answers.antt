@@ -101,11 +101,13 @@ shownExtension x = record { refusal = 0; place = 0; start = x .start; size = x .
 abbrev pub refusedExtension : Refusal → ExtensionAnswer
 refusedExtension r = record { refusal = r .number; place = r .place; start = 0; size = pos 0; code = pos 0 }
 
-abbrev pub extensionIn : Header → ℕ → ExtensionAnswer
-extensionIn h n = cond (ltb n (h .count)) (shownExtension (getD (h .spans) n noSpan)) (refusedExtension (refusal 18 0))
+-- the one that is asked for, its span beside how many there are
+abbrev pub extensionShown : ℕ → Span → ℕ → ExtensionAnswer
+extensionShown count x n = cond (ltb n count) (shownExtension x) (refusedExtension (refusal 18 0))
 
 unfoldable pub extensionAnswer : Reading → ℕ → ExtensionAnswer
-extensionAnswer r n = decided (r .verdict) (extensionIn (r .header) n) refusedExtension
+extensionAnswer r n =
+    decided (r .verdict) (extensionShown (r .header .count) (getD (r .header .spans) n noSpan) n) refusedExtension
 
 -- plus zero
 abbrev pub plusZero : Float

@@ -2,19 +2,19 @@
 // program calls the library with numbers and byte pointers"). Refusal 0 stands for success. The exports themselves are
 // the crate vestumbral.
 ghost use mathlib.Core.Path.{_≡_};
-ghost use Prim.Native.Nat.{_≤_};
-ghost use Rattle.extension.specs.Walk.{extensionLimit};
+ghost use Rattle.reader.specs.Reading.{readingOf};
+ghost use Rattle.outline.specs.Outline.{outlineOf};
 ghost use Rattle.answers.specs.Answers.{refusedReply, voxelReply, swapReply, editReply, bigEndian, isPair};
-ghost use Rattle.answers.specs.Answers.{shownFile};
-ghost use Rattle.answers.specs.Answers.{refusedFile, refusedExtension, extensionIn, sliceAnswer, positionAnswer};
+ghost use Rattle.answers.specs.Answers.{refusedFile, fileAnswer, refusedExtension, extensionShown, sliceAnswer};
+ghost use Rattle.answers.specs.Answers.{positionAnswer};
 use edit::Edited;
 use field::Order;
-use header::Header;
 use header::Kind;
+use outline::Outline;
+use outline::Outlined;
 use position::Positioned;
 use refusal::Refusal;
 use refusal::Verdict;
-use rules::Image;
 use timing::Slice;
 use voxel::Located;
 
@@ -116,14 +116,16 @@ fn is_pair(kind: Kind) -> u32
     }
 }
 
-pub fn shown_file(header: Header, image: Image) -> FileAnswer
-    requires { ⌜ header .count ≤ extensionLimit ⌝ }
-    ensures { λ a. ⌜ a ≡ shownFile header image ⌝ }
+// An accepted file: what its outline has, and three fields beside it, so that no record is made.
+pub fn shown_file(file: &[u8], outline: Outline) -> FileAnswer
+    requires { ⌜ outlineOf 0 (now file) ≡ Outlined.Shown outline ⌝ }
+    ensures { λ a. ⌜ a ≡ fileAnswer (readingOf (now (file .entry))) ⌝ }
 {
-    let order = header.order;
-    let kind = header.kind;
-    let dim = header.dim;
-    let intent = header.intent;
+    let layout = outline.layout;
+    let order = layout.order;
+    let kind = layout.kind;
+    let image = layout.image;
+    let count = outline.count as u32;
     FileAnswer {
         refusal: 0,
         place: 0,
@@ -131,10 +133,10 @@ pub fn shown_file(header: Header, image: Image) -> FileAnswer
         data_bytes: image.bytes,
         big_endian: big_endian(order),
         pair: is_pair(kind),
-        dim,
-        datatype: intent.datatype,
-        bitpix: intent.bitpix,
-        extensions: header.count as u32,
+        dim: header::dims(file, order),
+        datatype: field::read_i16(file, 70, order),
+        bitpix: field::read_i16(file, 72, order),
+        extensions: count,
     }
 }
 
@@ -150,17 +152,17 @@ pub fn refused_extension(r: Refusal) -> ExtensionAnswer
     }
 }
 
-pub fn extension_in(header: Header, number: usize) -> ExtensionAnswer
-    ensures { λ a. ⌜ a ≡ extensionIn header number ⌝ }
+// The extension that an outline was made for; 18 past the last.
+pub fn shown_extension(outline: Outline, number: usize) -> ExtensionAnswer
+    ensures { λ a. ⌜ a ≡ extensionShown (outline .count) (outline .span) number ⌝ }
 {
-    if header.count <= number {
+    if outline.count <= number {
         return refused_extension(Refusal {
             number: 18,
             place: 0,
         });
     }
-    let spans = header.spans;
-    let x = listing::span_at(spans, number);
+    let x = outline.span;
     ExtensionAnswer {
         refusal: 0,
         place: 0,

@@ -16,22 +16,17 @@ use answers::FileAnswer;
 use answers::PositionAnswer;
 use answers::Reply;
 use answers::SliceAnswer;
-use refusal::Verdict;
+use outline::Outlined;
 
 // Reads a file: what it shows of the record, or the refusal, 1 to 15.
 #[no_mangle]
 pub extern "C" fn vestumbral_read(file: &[u8]) -> FileAnswer
     ensures { λ a. ⌜ a ≡ fileAnswer (readingOf (now (file .entry))) ⌝ }
 {
-    let reading = reader::read(file);
-    let verdict = reading.verdict;
-    match verdict {
-        Verdict::Refused(r) => answers::refused_file(r),
-        Verdict::Accepted => {
-            let header = reading.header;
-            let image = reading.image;
-            answers::shown_file(header, image)
-        }
+    let outlined = outline::outline_of(file, 0);
+    match outlined {
+        Outlined::Hidden(r) => answers::refused_file(r),
+        Outlined::Shown(o) => answers::shown_file(file, o),
     }
 }
 
@@ -40,14 +35,10 @@ pub extern "C" fn vestumbral_read(file: &[u8]) -> FileAnswer
 pub extern "C" fn vestumbral_extension_at(file: &[u8], number: u64) -> ExtensionAnswer
     ensures { λ a. ⌜ a ≡ extensionAnswer (readingOf (now (file .entry))) number ⌝ }
 {
-    let reading = reader::read(file);
-    let verdict = reading.verdict;
-    match verdict {
-        Verdict::Refused(r) => answers::refused_extension(r),
-        Verdict::Accepted => {
-            let header = reading.header;
-            answers::extension_in(header, number as usize)
-        }
+    let outlined = outline::outline_of(file, number as usize);
+    match outlined {
+        Outlined::Hidden(r) => answers::refused_extension(r),
+        Outlined::Shown(o) => answers::shown_extension(o, number as usize),
     }
 }
 

@@ -1,52 +1,50 @@
--- `vestumbral_extension_at` meets its contract: the verdict decides.
-use mathlib.Core.Path.{ap, sym, _∙_}
-use Rattle.refusal.specs.Table.{decided}
-use Rattle.answers.specs.Answers.{extensionIn, refusedExtension, extensionAnswer}
+-- `vestumbral_extension_at` meets its contract: a refused file's outline is hidden, and an accepted one's shows the answer.
+use mathlib.Core.Path.{sym, _∙_}
+use denote.Ref.{now}
+use Rattle.answers.proofs.Shown.{hidden-extension, shown-extension}
 use borrow.Author.Needs.{needs}
 use Rattle.vestumbral.proofs.vestumbral_extension_at.Statement.{statement}
 use Rattle.vestumbral.proofs.vestumbral_extension_at.Tie as tie
 
-read-requires : tie.Need-read-requires
-read-requires c κs = search needs
+outline-of-requires : tie.Need-outline-of-requires
+outline-of-requires c κs = search needs
 
-enum-known-verdict : tie.Need-enum-known-verdict
-enum-known-verdict c = search needs
+enum-known-outlined : tie.Need-enum-known-outlined
+enum-known-outlined c = search needs
 
 refused-extension-requires : tie.Need-refused-extension-requires
 refused-extension-requires c κs = search needs
 
-enum-told : tie.Need-enum-told
-enum-told c = search needs
+enum-known-outlined-2 : tie.Need-enum-known-outlined-2
+enum-known-outlined-2 c = search needs
 
-extension-in-requires : tie.Need-extension-in-requires
-extension-in-requires c κs = search needs
+shown-extension-requires : tie.Need-shown-extension-requires
+shown-extension-requires c κs = search needs
 
 returns : tie.Need-returns
-unfolding extensionAnswer
 returns c =
-    let r = c .before .before .before .before in
-    let a = r .before .before .args in
+    let hidden = c .before .before .outlined .given in
+    let outline = c .before .before .before .before in
+    let a = outline .before .before .args in
     c .refused-extension .ensures
-    ∙ (λ i. decided (sym (c .before .before .verdict .given .1) i) (extensionIn (r .read .result .header) (a .number)) refusedExtension)
-    ∙ ap (λ x. extensionAnswer x (a .number)) (r .read .ensures)
+    ∙ hidden-extension (now (a .file)) (a .number) (hidden .0 .0) (sym (outline .outline-of .ensures) ∙ hidden .1)
 
 returns-2 : tie.Need-returns-2
-unfolding extensionAnswer
 returns-2 c =
-    let r = c .before .before .before .before in
-    let a = r .before .before .args in
-    c .extension-in .ensures
-    ∙ (λ i. decided (sym (c .before .before .enum-told .given .1) i) (extensionIn (r .read .result .header) (a .number)) refusedExtension)
-    ∙ ap (λ x. extensionAnswer x (a .number)) (r .read .ensures)
+    let shown = c .before .before .outlined2 .given in
+    let outline = c .before .before .before .before in
+    let a = outline .before .before .args in
+    c .shown-extension .ensures
+    ∙ shown-extension (now (a .file)) (a .number) (shown .0 .0) (sym (outline .outline-of .ensures) ∙ shown .1)
 
 pub vestumbral-extension-at-spec : {M : Type 1} → statement M
 vestumbral-extension-at-spec =
     tie.close
     (tie.spec
-    read-requires
-    enum-known-verdict
+    outline-of-requires
+    enum-known-outlined
     refused-extension-requires
-    enum-told
-    extension-in-requires
+    enum-known-outlined-2
+    shown-extension-requires
     returns
     returns-2)
