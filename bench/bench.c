@@ -3,17 +3,19 @@
  * rounds, and in a round all of a row's ways are taken in turn. Every buffer is written before the first round. The table has the
  * time of one call, or of one voxel, and its ratio to that of each other way: above 1 the library is slower.
  *
- * Beside read and voxel stand a copy and a move of the bytes that reading looks at (header, extender, extensions) and the same
- * rules written plainly in C; beside swap a copy and a move of the image and a loop that turns its units in place; beside append
- * and remove a copy and a move of the bytes that slide, the move by the same distance, and a loop that moves them byte by byte.
+ * The plain C is plain.c, which judges the same rules and gives the same answers; before anything is timed, both are asked of
+ * 200,000 files with bytes changed at random, and the run stops where they differ. Beside the calls that only read stand a copy
+ * and a move of the bytes that reading looks at (header, extender, extensions); beside a swap of 64 MiB a copy and a move of the
+ * image; beside an append and a removal that slide 64 MiB a copy and a move of these, the move by the same distance.
  *
  * The rows of 1000 voxels time one call of the crate voxel_run, which locates the first 1000 of axis 1 and answers the farthest
  * place, and have the time of one voxel. By record the call reads the file once, by file for each voxel. Beside both stand a copy
- * and a move of each voxel's bytes, and a plain C loop that keeps the farthest place: by record over what was read before the
- * timing, so that the compiler takes the tests of the other indexes, all 0, out of the loop; by file it reads for each voxel.
+ * and a move of each voxel's bytes. Beside the row by file stands plain C that reads for each voxel too; beside the row by record a
+ * plain C loop over what was read before the timing, so that the compiler takes the tests of the other indexes, all 0, out of it.
  */
 #define _POSIX_C_SOURCE 200809L
 #include "../tests/nifti.h"
+#include "plain.h"
 #include "vestumbral.h"
 
 #include <math.h>
@@ -22,17 +24,18 @@
 #include <string.h>
 #include <time.h>
 
-/* LARGE_ROUNDS is even, so that the swaps undo one another. */
-enum { SMALL_ROUNDS = 9, SMALL_CALLS = 20000, LARGE_ROUNDS = 8, IMAGE = 64 << 20, ROOM = IMAGE + (1 << 16) };
+/* Rounds are many and short, so that a machine with neighbours shows its own speed in some. LARGE_ROUNDS is even: swaps undo one
+ * another. */
+enum { SMALL_ROUNDS = 400, SMALL_CALLS = 4000, LARGE_ROUNDS = 8, IMAGE = 64 << 20, ROOM = IMAGE + (1 << 16) };
 
 /* The voxels that one call locates, and the calls of a round. */
-enum { VOXELS = 1000, VOXEL_CALLS = 200 };
+enum { VOXELS = 1000, VOXEL_CALLS = 5 };
 
 /* The crate voxel_run: the farthest place among the first `count` voxels of axis 1. */
 uint64_t voxel_run_by_record(const uint8_t *file, size_t file_len, uint64_t count);
 uint64_t voxel_run_by_file(const uint8_t *file, size_t file_len, uint64_t count);
 
-static uint8_t *work, *copy, *kept; /* ROOM bytes each */
+static uint8_t *work, *other, *copy; /* ROOM bytes each: the library's file, plain C's, and what is copied and moved */
 static volatile uint64_t sink;
 
 static void fail(const char *what)
@@ -53,6 +56,15 @@ typedef void way(void);
 
 enum { WAYS = 4 };
 
+static void print_row(const char *name, const char *input, const double best[WAYS])
+{
+    printf("%-15s %-26s %14.1f", name, input, best[0]);
+    for (int w = 1; w < WAYS; w++)
+        best[w] < INFINITY ? printf(" %9.2f", best[0] / best[w]) : printf(" %9s", "-");
+    printf("\n");
+    fflush(stdout);
+}
+
 /* A call of a way does `parts` of what the row gives the time of. */
 static void row(const char *name, const char *input, way *const ways[WAYS], int rounds, int calls, int parts)
 {
@@ -67,25 +79,27 @@ static void row(const char *name, const char *input, way *const ways[WAYS], int 
             double each = (now() - start) / calls / parts;
             best[w] = each < best[w] ? each : best[w];
         }
-    printf("%-15s %-26s %14.1f", name, input, best[0]);
-    for (int w = 1; w < WAYS; w++)
-        ways[w] ? printf(" %9.2f", best[0] / best[w]) : printf(" %9s", "-");
-    printf("\n");
-    fflush(stdout);
+    print_row(name, input, best);
 }
 
-static int get16(const uint8_t *from)
-{
-    return (int16_t)(from[0] | from[1] << 8);
-}
-
-/* A little-endian single file in `work` with so many extensions of 32 bytes; answers its length. */
+/*
+ * A little-endian single file in `work` with so many extensions of 32 bytes, with slice timing and srow numbers; answers its
+ * length. The image's bytes are there already (fill).
+ */
 static size_t make(int extensions, const int dims[4], int datatype, int bitpix)
 {
     size_t offset = 352 + 32 * (size_t)extensions, bytes = bitpix / 8;
     for (int i = 1; i < 4; i++)
         bytes *= dims[i];
     header(work, 0, dims, datatype, bitpix, float_bits(offset));
+    work[39] = 3 << 4; /* the slices are those of axis 3 */
+    work[122] = 3;
+    put16(work + 120, dims[3] - 1);
+    put32(work + 132, float_bits(0.5f));
+    put16(work + 254, 1);
+    for (int row = 0; row < 3; row++)
+        for (int i = 0; i < 4; i++)
+            put32(work + 280 + 16 * row + 4 * i, float_bits(i == 3 ? -90 : i == row ? 2 : 0.25f));
     memset(work + 348, 0, 4);
     work[348] = extensions > 0;
     for (int i = 0; i < extensions; i++) {
@@ -93,110 +107,60 @@ static size_t make(int extensions, const int dims[4], int datatype, int bitpix)
         put32(work + 356 + 32 * i, 6);
         memset(work + 360 + 32 * i, 'n', 24);
     }
-    for (size_t i = offset; i < ROOM; i++)
-        work[i] = i * 167 >> 3;
     if (vestumbral_read(work, offset + bytes).refusal != 0)
         fail("the input is refused");
     return offset + bytes;
 }
 
-/* What every row below works on. */
-static size_t file_len, looked_at, slid_from, slid_to, slid_bytes, unit;
-
-/* The bits of a datatype, 0 for none. */
-static int bits_of(int datatype)
+static void fill(void)
 {
-    switch (datatype) {
-    case 2: case 256: return 8;
-    case 4: case 512: return 16;
-    case 128: return 24;
-    case 8: case 16: case 768: case 2304: return 32;
-    case 32: case 64: case 1024: case 1280: return 64;
-    case 1536: case 1792: return 128;
-    case 2048: return 256;
-    default: return 0;
-    }
+    for (size_t i = 0; i < ROOM; i++)
+        work[i] = copy[i] = i * 167 >> 3;
 }
 
-struct plain_file {
-    int refused, dim[8], bytes, extensions;
-    uint64_t offset, image;
-    struct { uint64_t start; int32_t size, code; } spans[64];
-};
+/* What every row below works on. `number` is the last extension. */
+static size_t file_len, other_len, looked_at, slid_from, slid_to, slid_bytes, unit;
+static uint64_t number;
 
-/* The rules of reading for a little-endian single file, plainly; only whether it is refused, not the number. */
-__attribute__((noinline)) static void plain_read(const uint8_t *file, size_t length, struct plain_file *to)
-{
-    to->refused = 1;
-    if (length < 348 || get32(file) != 348 || memcmp(file + 344, "n+1", 4) != 0)
-        return;
-    for (int i = 0; i < 8; i++)
-        to->dim[i] = get16(file + 40 + 2 * i);
-    if (to->dim[0] < 1 || to->dim[0] > 7)
-        return;
-    int bits = bits_of(get16(file + 70));
-    if (bits == 0 || get16(file + 72) != bits)
-        return;
-    to->bytes = bits / 8;
-    to->image = to->bytes;
-    for (int i = 1; i <= to->dim[0]; i++) {
-        if (to->dim[i] < 1)
-            return;
-        to->image *= to->dim[i];
-        if (to->image > 1099511627776)
-            return;
-    }
-    uint32_t stored = get32(file + 108);
-    float offset;
-    memcpy(&offset, &stored, 4);
-    if (!(offset >= 352 && offset <= 134217728) || offset != (float)(uint64_t)offset)
-        return;
-    to->offset = offset;
-    if (length < to->offset + to->image || file[348] > 1 || file[349] || file[350] || file[351])
-        return;
-    to->extensions = 0;
-    for (uint64_t at = 352; file[348] && at < to->offset; to->extensions++) {
-        if (to->extensions == 64 || to->offset - at < 16)
-            return;
-        int32_t size = get32(file + at), code = get32(file + at + 4);
-        if (size <= 0 || size % 16 || (uint64_t)size > to->offset - at || code < 0)
-            return;
-        to->spans[to->extensions].start = at;
-        to->spans[to->extensions].size = size;
-        to->spans[to->extensions].code = code;
-        at += size;
-    }
-    to->refused = file[348] && to->extensions == 0;
-}
+static const uint8_t note[24] = "a note of twenty-four b.";
 
 static void read_library(void) { sink = vestumbral_read(work, file_len).data_bytes; }
-
-static void read_plain(void)
-{
-    static struct plain_file file;
-    plain_read(work, file_len, &file);
-    sink = file.refused ? 0 : file.image;
-}
-
+static void read_plain(void) { sink = plain_read(work, file_len).data_bytes; }
+static void extension_library(void) { sink = vestumbral_extension_at(work, file_len, number).start; }
+static void extension_plain(void) { sink = plain_extension_at(work, file_len, number).start; }
 static void voxel_library(void) { sink = vestumbral_voxel(work, file_len, NULL, 0, sink % 3, 1, 0, 0, 0, 0, 0).place; }
+static void voxel_plain(void) { sink = plain_voxel(work, file_len, NULL, 0, sink % 3, 1, 0, 0, 0, 0, 0).place; }
+static void slice_library(void) { sink = vestumbral_slice_at(work, file_len, sink % 4).rank; }
+static void slice_plain(void) { sink = plain_slice_at(work, file_len, sink % 4).rank; }
+static void position_library(void) { sink = vestumbral_position_of(work, file_len, sink % 3, 1, 2).x > 0; }
+static void position_plain(void) { sink = plain_position_of(work, file_len, sink % 3, 1, 2).x > 0; }
+static void swap_library(void) { sink = vestumbral_swap(work, file_len, NULL, 0).refusal; }
+static void swap_plain(void) { sink = plain_swap(other, other_len, NULL, 0).refusal; }
 
-/* The place of a voxel of a file that was read before, plainly, and 0 where it is refused. */
-static uint64_t plain_place(const struct plain_file *file, const uint64_t index[3])
+static void edited(vestumbral_reply reply, size_t *length)
 {
-    uint64_t number = 0;
-    for (int i = 2; i >= 0; i--) {
-        if (file->refused || index[i] >= (uint64_t)file->dim[i + 1])
-            return 0;
-        number = index[i] + file->dim[i + 1] * number;
-    }
-    return file->offset + file->bytes * number;
+    if (reply.refusal != 0)
+        fail("an edit is refused");
+    *length = reply.length;
 }
 
-static void voxel_plain(void)
+static void replace_library(void) { edited(vestumbral_replace(work, ROOM, file_len, number, 6, note, sizeof note), &file_len); }
+static void replace_plain(void) { edited(plain_replace(other, ROOM, other_len, number, 6, note, sizeof note), &other_len); }
+static void append_library(void) { edited(vestumbral_append(work, ROOM, file_len, 6, note, sizeof note), &file_len); }
+static void append_plain(void) { edited(plain_append(other, ROOM, other_len, 6, note, sizeof note), &other_len); }
+static void remove_library(void) { edited(vestumbral_remove(work, ROOM, file_len, number), &file_len); }
+static void remove_plain(void) { edited(plain_remove(other, ROOM, other_len, number), &other_len); }
+
+static void both_library(void)
 {
-    static struct plain_file file;
-    plain_read(work, file_len, &file);
-    sink = plain_place(&file, (uint64_t[3]){sink % 3, 1, 0});
+    append_library();
+    remove_library();
+}
+
+static void both_plain(void)
+{
+    append_plain();
+    remove_plain();
 }
 
 static void looked_at_copy(void)
@@ -211,7 +175,46 @@ static void looked_at_move(void)
     sink = copy[looked_at - 1];
 }
 
-static struct plain_file read_before;
+static void same_files(void)
+{
+    if (file_len != other_len || memcmp(work, other, file_len) != 0)
+        fail("plain C leaves another file");
+}
+
+/* Every call on a small file with so many extensions, in either byte order. */
+static void small_rows(int extensions, int big)
+{
+    static const int small[4] = {3, 3, 2, 4};
+    static const struct { const char *name; way *library, *plain; int reads, least, most; } calls[] = {
+        {"read", read_library, read_plain, 1, 0, 64},
+        {"extension_at", extension_library, extension_plain, 1, 0, 64},
+        {"voxel", voxel_library, voxel_plain, 1, 0, 64},
+        {"slice_at", slice_library, slice_plain, 1, 0, 64},
+        {"position_of", position_library, position_plain, 1, 0, 64},
+        {"swap", swap_library, swap_plain, 0, 0, 64},
+        {"replace", replace_library, replace_plain, 0, 1, 64},
+        {"append, remove", both_library, both_plain, 0, 0, 63},
+    };
+    char input[32];
+    snprintf(input, sizeof input, "%d extensions%s", extensions, big ? ", big" : "");
+    file_len = make(extensions, small, 4, 16);
+    if (big)
+        swap_library();
+    looked_at = 352 + 32 * extensions;
+    memcpy(other, work, file_len);
+    other_len = file_len;
+    for (size_t i = 0; i < sizeof calls / sizeof *calls; i++) {
+        if (extensions < calls[i].least || extensions > calls[i].most)
+            continue;
+        number = extensions - (extensions > 0 && calls[i].library != both_library);
+        way *const ways[WAYS] = {calls[i].library, calls[i].reads ? looked_at_copy : NULL, calls[i].reads ? looked_at_move : NULL,
+                                 calls[i].plain};
+        row(calls[i].name, input, ways, SMALL_ROUNDS, SMALL_CALLS, 1);
+        same_files();
+    }
+}
+
+static vestumbral_file read_before;
 
 static void record_library(void) { sink = voxel_run_by_record(work, file_len, VOXELS); }
 static void file_library(void) { sink = voxel_run_by_file(work, file_len, VOXELS); }
@@ -220,7 +223,14 @@ static void record_plain(void)
 {
     uint64_t most = 0;
     for (uint64_t k = 0; k < VOXELS; k++) {
-        uint64_t place = plain_place(&read_before, (uint64_t[3]){k, 0, 0});
+        const uint64_t index[3] = {k, 0, 0};
+        uint64_t voxel = 0, place = 0;
+        for (int i = 2; i >= 0; i--) {
+            if (index[i] >= (uint64_t)read_before.dim[i + 1])
+                break;
+            voxel = index[i] + read_before.dim[i + 1] * voxel;
+            place = read_before.data_offset + read_before.bitpix / 8 * voxel;
+        }
         most = place > most ? place : most;
     }
     sink = most;
@@ -228,11 +238,9 @@ static void record_plain(void)
 
 static void file_plain(void)
 {
-    static struct plain_file file;
     uint64_t most = 0;
     for (uint64_t k = 0; k < VOXELS; k++) {
-        plain_read(work, file_len, &file);
-        uint64_t place = plain_place(&file, (uint64_t[3]){k, 0, 0});
+        uint64_t place = plain_voxel(work, file_len, NULL, 0, k, 0, 0, 0, 0, 0, 0).place;
         most = place > most ? place : most;
     }
     sink = most;
@@ -265,8 +273,7 @@ static void voxel_rows(int extensions)
     file_len = make(extensions, dims, 4, 16);
     unit = 2;
     looked_at = 352 + 32 * extensions;
-    memcpy(copy, work, ROOM);
-    plain_read(work, file_len, &read_before);
+    read_before = plain_read(work, file_len);
     for (int by_file = 0; by_file < 2; by_file++) {
         for (int w = 0; w < WAYS; w += WAYS - 1) { /* the library and plain C */
             ways[by_file][w]();
@@ -275,12 +282,6 @@ static void voxel_rows(int extensions)
         }
         row(by_file ? "voxel by file" : "voxel by record", input, ways[by_file], SMALL_ROUNDS, VOXEL_CALLS, VOXELS);
     }
-}
-
-static void swap_library(void)
-{
-    if (vestumbral_swap(work, file_len, NULL, 0).refusal != 0)
-        fail("a swap is refused");
 }
 
 static void image_copy(void)
@@ -295,57 +296,20 @@ static void image_move(void)
     sink = copy[IMAGE - 1];
 }
 
-static void swap_plain(void)
+static void swap_rows(void)
 {
-    uint8_t *image = copy + 352;
-    uint32_t four;
-    uint64_t first, last;
-    switch (unit) {
-    case 2:
-        for (size_t i = 0; i < IMAGE; i += 2) {
-            uint8_t low = image[i];
-            image[i] = image[i + 1];
-            image[i + 1] = low;
-        }
-        break;
-    case 4:
-        for (size_t i = 0; i < IMAGE; i += 4) {
-            memcpy(&four, image + i, 4);
-            four = __builtin_bswap32(four);
-            memcpy(image + i, &four, 4);
-        }
-        break;
-    case 8:
-        for (size_t i = 0; i < IMAGE; i += 8) {
-            memcpy(&first, image + i, 8);
-            first = __builtin_bswap64(first);
-            memcpy(image + i, &first, 8);
-        }
-        break;
-    default:
-        for (size_t i = 0; i < IMAGE; i += 16) {
-            memcpy(&first, image + i, 8);
-            memcpy(&last, image + i + 8, 8);
-            first = __builtin_bswap64(first);
-            last = __builtin_bswap64(last);
-            memcpy(image + i, &last, 8);
-            memcpy(image + i + 8, &first, 8);
-        }
+    static const int types[5][3] = {{1, 2, 8}, {2, 4, 16}, {4, 8, 32}, {8, 64, 64}, {16, 1536, 128}};
+    for (int i = 0; i < 5; i++) {
+        char input[32];
+        const int dims[4] = {3, 1024, 1024, 64 * 8 / types[i][2]};
+        file_len = other_len = make(0, dims, types[i][1], types[i][2]);
+        memcpy(other, work, ROOM);
+        way *const ways[WAYS] = {swap_library, image_copy, image_move, swap_plain};
+        snprintf(input, sizeof input, "64 MiB, unit %d", types[i][0]);
+        row("swap", input, ways, LARGE_ROUNDS, 1, 1);
+        same_files();
     }
-    sink = image[IMAGE - 1];
 }
-
-static const uint8_t note[24] = "a note of twenty-four b.";
-
-static void edited(vestumbral_reply reply)
-{
-    if (reply.refusal != 0)
-        fail("an edit is refused");
-    file_len = reply.length;
-}
-
-static void append_library(void) { edited(vestumbral_append(work, ROOM, file_len, 6, note, sizeof note)); }
-static void remove_library(void) { edited(vestumbral_remove(work, ROOM, file_len, 0)); }
 
 static void slide_copy(void)
 {
@@ -359,27 +323,19 @@ static void slide_move(void)
     sink = copy[slid_bytes - 1];
 }
 
-static void slide_plain(void)
-{
-    volatile size_t to = slid_to, from = slid_from;
-    uint8_t *target = copy + to, *source = copy + from;
-    if (to > from)
-        for (size_t i = slid_bytes; i-- > 0;)
-            target[i] = source[i];
-    else
-        for (size_t i = 0; i < slid_bytes; i++)
-            target[i] = source[i];
-    sink = copy[slid_bytes - 1];
-}
-
 /* An append and the removal that undoes it are timed apart, in turn. */
-static void edit_rows(void)
+static void slide_rows(void)
 {
-    way *const ways[2][WAYS] = {{append_library, slide_copy, slide_move, slide_plain},
-                                {remove_library, slide_copy, slide_move, slide_plain}};
+    static const int large[4] = {3, 1024, 1024, 32};
+    way *const ways[2][WAYS] = {{append_library, slide_copy, slide_move, append_plain},
+                                {remove_library, slide_copy, slide_move, remove_plain}};
     double best[2][WAYS];
     for (int w = 0; w < 2 * WAYS; w++)
         best[w / WAYS][w % WAYS] = INFINITY;
+    file_len = other_len = make(0, large, 4, 16);
+    memcpy(other, work, ROOM);
+    slid_bytes = IMAGE;
+    number = 0;
     for (int round = 0; round < 2 * LARGE_ROUNDS; round++) {
         int removal = round % 2;
         slid_from = removal ? 384 : 352;
@@ -390,68 +346,115 @@ static void edit_rows(void)
             double took = now() - start;
             best[removal][w] = took < best[removal][w] ? took : best[removal][w];
         }
+        same_files();
     }
-    for (int removal = 0; removal < 2; removal++) {
-        printf("%-15s %-26s %14.1f", removal ? "remove" : "append", "32 bytes, 64 MiB slide", best[removal][0]);
-        for (int w = 1; w < WAYS; w++)
-            printf(" %9.2f", best[removal][0] / best[removal][w]);
-        printf("\n");
+    for (int removal = 0; removal < 2; removal++)
+        print_row(removal ? "remove" : "append", "32 bytes, 64 MiB slide", best[removal]);
+}
+
+static uint32_t seed = 12345;
+
+static uint32_t chance(uint32_t below)
+{
+    seed ^= seed << 13;
+    seed ^= seed >> 17;
+    seed ^= seed << 5;
+    return seed % below;
+}
+
+static void same_replies(vestumbral_reply a, vestumbral_reply b)
+{
+    if (a.refusal != b.refusal || a.place != b.place || a.length != b.length)
+        fail("plain C gives another reply");
+}
+
+/* Each reading call of a file, and then each that changes it in turn, by the library and by plain C. */
+static void compare_calls(size_t length)
+{
+    enum { SIZE = 4096, IMAGE_SIZE = 512 };
+    static uint8_t images[2][IMAGE_SIZE];
+    const uint64_t n = chance(4), i = chance(4), j = chance(3), k = chance(5), last = chance(8) == 0;
+    const size_t image_len = chance(IMAGE_SIZE);
+    const int32_t code = chance(16) == 0 ? -1 : 6;
+    vestumbral_file f = vestumbral_read(work, length), g = plain_read(work, length);
+    vestumbral_extension x = vestumbral_extension_at(work, length, n), y = plain_extension_at(work, length, n);
+    vestumbral_slice s = vestumbral_slice_at(work, length, k), t = plain_slice_at(work, length, k);
+    vestumbral_position p = vestumbral_position_of(work, length, i, j, k), q = plain_position_of(work, length, i, j, k);
+    if (memcmp(&f, &g, sizeof f) != 0 || memcmp(&x, &y, sizeof x) != 0)
+        fail("plain C reads another file or extension");
+    if (s.refusal != t.refusal || s.place != t.place || s.state != t.state || s.rank != t.rank || s.seconds != t.seconds)
+        fail("plain C answers another slice");
+    if (p.refusal != q.refusal || p.place != q.place || p.x != q.x || p.y != q.y || p.z != q.z)
+        fail("plain C answers another position");
+    same_replies(vestumbral_voxel(work, length, images[0], image_len, i, j, k, 0, 0, 0, last),
+                 plain_voxel(work, length, images[0], image_len, i, j, k, 0, 0, 0, last));
+    memcpy(other, work, SIZE);
+    memcpy(images[1], images[0], IMAGE_SIZE);
+    same_replies(vestumbral_swap(work, length, images[0], image_len), plain_swap(other, length, images[1], image_len));
+    same_replies(vestumbral_replace(work, SIZE, length, n, code, note, 8 * j),
+                 plain_replace(other, SIZE, length, n, code, note, 8 * j));
+    same_replies(vestumbral_remove(work, SIZE, length, n), plain_remove(other, SIZE, length, n));
+    same_replies(vestumbral_append(work, length + 16 * n, length, code, note, 8 * j),
+                 plain_append(other, length + 16 * n, length, code, note, 8 * j));
+    if (memcmp(work, other, SIZE) != 0 || memcmp(images[0], images[1], IMAGE_SIZE) != 0)
+        fail("plain C leaves other bytes");
+    sink += f.refusal == 0;
+}
+
+/* Files with bytes changed at random, most of them where a rule looks, and of any length; half of them stay accepted. */
+static void compare(void)
+{
+    enum { FILES = 200000 };
+    static const int small[4] = {3, 3, 2, 4};
+    static const uint16_t looked[] = {0, 1, 39, 40, 41, 42, 43, 44, 46, 48, 54, 70, 71, 72, 73, 74, 108, 109, 110, 111, 120,
+                                      121, 122, 132, 254, 255, 280, 283, 344, 345, 347, 348, 349, 351, 352, 353, 356, 359,
+                                      384, 388, 391};
+    sink = 0;
+    for (int file = 0; file < FILES; file++) {
+        size_t length = make(chance(4), small, 4, 16);
+        if (chance(4) == 0) {
+            memcpy(work + 344, "ni1", 4);
+            put32(work + 108, float_bits(chance(64)));
+            length = 352 + 32 * chance(4) * work[348];
+            length -= chance(2) && length == 352 ? 4 : 0;
+        }
+        if (chance(2))
+            vestumbral_swap(work, length, NULL, 0);
+        for (uint32_t changes = chance(3); changes > 0; changes--)
+            work[looked[chance(sizeof looked / sizeof *looked)]] = chance(2) ? chance(8) : chance(256);
+        if (chance(8) == 0)
+            length = chance(length + 1);
+        compare_calls(length);
     }
+    printf("plain C answers like the library on %d files, %d of them accepted\n", FILES, (int)sink);
+    if (sink < FILES / 10 || sink > FILES / 10 * 9)
+        fail("too few of these files are accepted, or refused");
 }
 
 int main(void)
 {
     work = malloc(ROOM);
+    other = malloc(ROOM);
     copy = malloc(ROOM);
-    kept = malloc(ROOM);
-    if (!work || !copy || !kept)
+    if (!work || !other || !copy)
         fail("no memory");
+    fill();
+    compare();
     printf("ns of one call (of one voxel where %d are located), best of %d rounds (%d for 64 MiB), buffers written first\n", VOXELS,
            SMALL_ROUNDS, LARGE_ROUNDS);
     printf("a ratio is the library's time over the other's\n");
     printf("%-15s %-26s %14s %9s %9s %9s\n", "call", "input", "ns", "/memcpy", "/memmove", "/plain C");
-
-    static const int small[4] = {3, 3, 2, 1}; /* with no extensions 364 bytes, as file A */
-    static const int counts[3] = {0, 8, 64};
-    for (int voxel = 0; voxel < 2; voxel++)
-        for (int i = 0; i < 3; i++) {
-            char input[32];
-            file_len = make(counts[i], small, 4, 16);
-            looked_at = 352 + 32 * counts[i];
-            memcpy(copy, work, ROOM);
-            way *const ways[WAYS] = {voxel ? voxel_library : read_library, looked_at_copy, looked_at_move,
-                                     voxel ? voxel_plain : read_plain};
-            snprintf(input, sizeof input, "%d extensions", counts[i]);
-            row(voxel ? "voxel by file" : "read", input, ways, SMALL_ROUNDS, SMALL_CALLS, 1);
-        }
+    static const int counts[4] = {0, 1, 8, 64};
+    for (int big = 0; big < 2; big++)
+        for (int i = 0; i < 4; i++)
+            small_rows(counts[i], big);
     voxel_rows(0);
     voxel_rows(64);
-
-    static const int types[5][3] = {{1, 2, 8}, {2, 4, 16}, {4, 8, 32}, {8, 64, 64}, {16, 1536, 128}};
-    for (int i = 0; i < 5; i++) {
-        char input[32];
-        const int dims[4] = {3, 1024, 1024, 64 * 8 / types[i][2]};
-        unit = types[i][0];
-        file_len = make(0, dims, types[i][1], types[i][2]);
-        memcpy(kept, work, ROOM);
-        memcpy(copy, work, ROOM);
-        way *const ways[WAYS] = {swap_library, image_copy, image_move, unit > 1 ? swap_plain : NULL};
-        snprintf(input, sizeof input, "64 MiB, unit %d", types[i][0]);
-        row("swap", input, ways, LARGE_ROUNDS, 1, 1);
-        if (memcmp(work, kept, ROOM) != 0)
-            fail("an even number of swaps changed the file");
-    }
-
-    static const int large[4] = {3, 1024, 1024, 32};
-    file_len = make(0, large, 4, 16);
-    slid_bytes = IMAGE;
-    memcpy(kept, work, ROOM);
-    memcpy(copy, work, ROOM);
-    edit_rows();
-    if (memcmp(work, kept, file_len) != 0)
-        fail("append and remove changed the file");
+    fill();
+    swap_rows();
+    slide_rows();
     free(work);
+    free(other);
     free(copy);
-    free(kept);
     return 0;
 }

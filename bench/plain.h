@@ -1,0 +1,20 @@
+/* The library's nine calls written plainly in C (plain.c): same arguments, same answers, same bytes left in every buffer. */
+#ifndef BENCH_PLAIN_H
+#define BENCH_PLAIN_H
+
+#include "vestumbral.h"
+
+vestumbral_file plain_read(const uint8_t *file, size_t file_len);
+vestumbral_extension plain_extension_at(const uint8_t *file, size_t file_len, uint64_t number);
+vestumbral_reply plain_voxel(const uint8_t *file, size_t file_len, const uint8_t *image, size_t image_len,
+                             uint64_t i1, uint64_t i2, uint64_t i3, uint64_t i4, uint64_t i5, uint64_t i6, uint64_t i7);
+vestumbral_slice plain_slice_at(const uint8_t *file, size_t file_len, uint64_t slice);
+vestumbral_position plain_position_of(const uint8_t *file, size_t file_len, uint64_t i, uint64_t j, uint64_t k);
+vestumbral_reply plain_swap(uint8_t *file, size_t file_len, uint8_t *image, size_t image_len);
+vestumbral_reply plain_append(uint8_t *buffer, size_t buffer_len, uint64_t file_len,
+                              int32_t code, const uint8_t *payload, size_t payload_len);
+vestumbral_reply plain_replace(uint8_t *buffer, size_t buffer_len, uint64_t file_len, uint64_t number,
+                               int32_t code, const uint8_t *payload, size_t payload_len);
+vestumbral_reply plain_remove(uint8_t *buffer, size_t buffer_len, uint64_t file_len, uint64_t number);
+
+#endif
