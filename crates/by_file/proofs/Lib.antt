@@ -1,6 +1,4 @@
--- The theorems on what is asked of a file: voxels, slices, positions.
+-- The theorems on the voxels of a file.
 mod Shown
 mod Indexes
 pub mod Voxels
-pub mod Slices
-pub mod Positions

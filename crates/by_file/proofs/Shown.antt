@@ -1,14 +1,12 @@
--- What a file's outline says of its reading, as the calls ask it: its refusal, or the fields of its record.
+-- What the outline of an accepted file says of a voxel: the fields that it is located by are its record's, and pass rules 5 to 10.
 use Prim.Native.Nat.{ℕ}
-use mathlib.Core.Path.{_≡_, refl, ap, sym, _∙_}
+use mathlib.Core.Path.{_≡_, refl, ap, _∙_}
 use mathlib.Core.Bool.{true, false}
 use mathlib.Core.List.{List}
 use Rattle.field.specs.Numbers.{i16At, i16sAt}
-use Rattle.refusal.specs.declared.Refusal.{Refusal}
 use Rattle.refusal.specs.declared.Verdict.the-variants.{Accepted}
-use Rattle.refusal.specs.Table.{refusal, verdict, decided}
+use Rattle.refusal.specs.Table.{refusal, verdict}
 use Rattle.refusal.proofs.Rows.{accepted-clear, clear-accepted}
-use Rattle.extension.specs.Listing.{spansOf}
 use Rattle.header.specs.declared.Header.{Header}
 use Rattle.header.specs.Fields.{headerOf}
 use Rattle.rules.specs.declared.Shape.{Shape}
@@ -18,45 +16,23 @@ use Rattle.layout.specs.File.{shapeIn}
 use Rattle.reader.specs.Reading.{readingOf}
 use Rattle.reader.proofs.File.{shape-rows}
 use Rattle.outline.specs.declared.Outline.{Outline}
-use Rattle.outline.specs.declared.Outlined.the-variants.{Shown, Hidden}
+use Rattle.outline.specs.declared.Outlined.the-variants.{Shown}
 use Rattle.outline.specs.Outline.{outlineOf}
-use Rattle.outline.proofs.Outlines.{hidden-reading, shows, shown-reading, shown-accepted}
+use Rattle.outline.proofs.Outlines.{shows, shown-header}
 use Rattle.voxel.specs.declared.Located.the-variants.{Unlocated}
 use Rattle.voxel.specs.Voxel.{locatedBy, locatedIn, Bounded, placedBy}
 use Rattle.voxel.proofs.Sized.{shape-bounded}
 use Rattle.voxel.proofs.Locating.{locates-16, locates-placed}
-use Rattle.timing.specs.Slices.{acquisitionOf}
-use Rattle.position.specs.Positions.{sformOf}
-use Rattle.by_file.specs.Files.{acquisitionIn, sformIn}
-
--- what a call answers by the reading's verdict: of a refused file, and of an accepted one
-module _ {ℓ} {A : Type ℓ} (s : List ℕ) (a : A) (f : Refusal → A) where
-  pub hidden-answer : (r : Refusal) → outlineOf 0 s ≡ Hidden r → f r ≡ decided (readingOf s .verdict) a f
-  hidden-answer r e = rw (hidden-reading s 0 r e)
-
-  pub shown-answer : (o : Outline) → outlineOf 0 s ≡ Shown o → a ≡ decided (readingOf s .verdict) a f
-  shown-answer o e = rw (shown-accepted s 0 o e)
 
 -- the fields that an accepted file shows are its record's
 module _ (s : List ℕ) (o : Outline) (e : outlineOf 0 s ≡ Shown o) where
-  header-is : headerOf (o .layout .order) (o .layout .kind) (o .count) (spansOf (shows s 0 o e .list)) s ≡ readingOf s .header
-  header-is i = sym (shown-reading s 0 o e) i .header
-
   pub shown-kind : o .layout .kind ≡ readingOf s .header .kind
   unfolding headerOf
-  shown-kind = ap (λ (h : Header). h .kind) header-is
-
-  pub shown-acquisition : acquisitionIn (o .layout .order) s ≡ acquisitionOf (readingOf s .header)
-  unfolding acquisitionIn headerOf
-  shown-acquisition = ap acquisitionOf header-is
-
-  pub shown-sform : sformIn (o .layout .order) s ≡ sformOf (readingOf s .header)
-  unfolding sformIn headerOf
-  shown-sform = ap sformOf header-is
+  shown-kind = ap (λ (h : Header). h .kind) (shown-header s 0 o e)
 
   shown-shape : shapeIn (o .layout .order) (o .layout .kind) s ≡ shapeOfRecord (readingOf s .header)
   unfolding shapeIn headerOf
-  shown-shape = ap shapeOfRecord header-is
+  shown-shape = ap shapeOfRecord (shown-header s 0 o e)
 
   -- and those that rules 5 to 10 judge pass them: so 16 and 17 alone decide on a voxel
   abbrev fields : Shape

@@ -1,24 +1,14 @@
--- What is asked of a file's bytes: reading's refusal, 1..15 first, and of an accepted file what the crates voxel, timing and position
--- answer by its record (01-scope.md, "Voxels and byte order" and "Slices and positions").
+-- What is asked of a file's bytes: reading's refusal, 1..15 first, and of an accepted file what the crate voxel answers by its record
+-- (01-scope.md, "Voxels and byte order").
 use Prim.Native.Nat.{ℕ}
 use mathlib.Core.List.{List, []}
-use lib.ListN.{length, getD, take, drop}
-use Rattle.field.specs.declared.Order.{Order}
-use Rattle.field.specs.Numbers.{u32At, i16At, u32sAt, i16sAt}
+use lib.ListN.{length, take, drop}
 use Rattle.refusal.specs.Table.{decided}
 use Rattle.rules.specs.Rules.{holder}
 use Rattle.reader.specs.Reading.{readingOf}
 use Rattle.voxel.specs.declared.Located.{Located}
 use Rattle.voxel.specs.declared.Located.the-variants.{At, Unlocated}
 use Rattle.voxel.specs.Voxel.{locatedIn}
-use Rattle.timing.specs.declared.Acquisition.{Acquisition}
-use Rattle.timing.specs.declared.Slice.{Slice}
-use Rattle.timing.specs.declared.Slice.the-variants as slice
-use Rattle.timing.specs.Slices.{sliceIn}
-use Rattle.position.specs.declared.Sform.{Sform}
-use Rattle.position.specs.declared.Positioned.{Positioned}
-use Rattle.position.specs.declared.Positioned.the-variants as position
-use Rattle.position.specs.Positions.{positionIn}
 
 -- "One call answers the place and length, or the refusal"
 unfoldable pub locatedOf : List ℕ → List ℕ → List ℕ → Located
@@ -33,33 +23,3 @@ partOf (Unlocated r) l = []
 -- "In another the voxel's bytes are handed back"
 unfoldable pub voxelOf : List ℕ → List ℕ → List ℕ → List ℕ
 voxelOf file image index = partOf (locatedOf file image index) (holder (readingOf file .header .kind) file image)
-
--- "Slices and positions are asked of the file's bytes alone: 1..15 first, then as said below."
-unfoldable pub sliceOf : List ℕ → ℕ → Slice
-sliceOf file s = decided (readingOf file .verdict) (sliceIn (readingOf file .header) s) slice.Refused
-
-unfoldable pub positionAt : List ℕ → ℕ → ℕ → ℕ → Positioned
-positionAt file i j k = decided (readingOf file .verdict) (positionIn (readingOf file .header) i j k) position.Refused
-
--- ---- The fields that slices and positions ask for, where a file has them
-
-unfoldable pub acquisitionIn : Order → List ℕ → Acquisition
-acquisitionIn order s =
-    record {
-      dim = i16sAt order s 40 8;
-      «dim_info» = getD s 39 0;
-      «slice_start» = i16At order s 74;
-      «slice_end» = i16At order s 120;
-      «slice_code» = getD s 122 0;
-      «slice_duration» = u32At order s 132;
-    }
-
-unfoldable pub sformIn : Order → List ℕ → Sform
-sformIn order s =
-    record {
-      dim = i16sAt order s 40 8;
-      «sform_code» = i16At order s 254;
-      «srow_x» = u32sAt order s 280 4;
-      «srow_y» = u32sAt order s 296 4;
-      «srow_z» = u32sAt order s 312 4;
-    }

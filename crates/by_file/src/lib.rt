@@ -1,6 +1,5 @@
-// What is asked of a file's bytes: a voxel's place and its bytes, a slice, a position (01-scope.md, "Voxels and byte order" and
-// "Slices and positions"). Rules 1 to 15 come first, by the file's outline; then the crates voxel, timing and position answer by the
-// fields that they ask for, and no record is made.
+// A voxel of a file's bytes: its place, and the bytes themselves (01-scope.md, "Voxels and byte order"). Rules 1 to 15 come first, by
+// the file's outline; then the crate voxel answers by the fields that it asks for, and no record is made.
 ghost use mathlib.Core.Path.{_≡_};
 ghost use mathlib.Core.List.{[], _∷_};
 ghost use Prim.Native.Nat.{_+_, _≤_};
@@ -9,16 +8,11 @@ ghost use Rattle.rules.specs.Rules.{holder};
 ghost use Rattle.reader.specs.Reading.{readingOf};
 ghost use Rattle.outline.specs.Outline.{outlineOf};
 ghost use Rattle.voxel.specs.Voxel.{locatedIn};
-ghost use Rattle.by_file.specs.Files.{locatedOf, voxelOf, acquisitionIn, sliceOf, sformIn, positionAt};
-use field::Order;
+ghost use Rattle.by_file.specs.Files.{locatedOf, voxelOf};
 use header::Kind;
 use outline::Outline;
 use outline::Outlined;
-use position::Positioned;
-use position::Sform;
 use refusal::Refusal;
-use timing::Acquisition;
-use timing::Slice;
 use voxel::Located;
 
 // Rules 16 and 17 of an accepted file, and the voxel's place.
@@ -119,65 +113,6 @@ pub fn voxel<'a>(
                     )
                 }
             }
-        }
-    }
-}
-
-// The fields that slice timing is read from.
-fn acquisition_in(file: &[u8], order: Order) -> Acquisition
-    requires { ⌜ 348 ≤ length (now file) ⌝ }
-    ensures { λ r. ⌜ r ≡ acquisitionIn order (now (file .entry)) ⌝ }
-{
-    Acquisition {
-        dim: header::dims(file, order),
-        dim_info: file[39],
-        slice_start: field::read_i16(file, 74, order),
-        slice_end: field::read_i16(file, 120, order),
-        slice_code: file[122],
-        slice_duration: field::read_u32(file, 132, order),
-    }
-}
-
-// The slice s of a file.
-pub fn slice_at(file: &[u8], s: u64) -> Slice
-    ensures { λ r. ⌜ r ≡ sliceOf (now (file .entry)) s ⌝ }
-{
-    let outlined = outline::outline_of(file, 0);
-    match outlined {
-        Outlined::Hidden(r) => Slice::Refused(r),
-        Outlined::Shown(outline) => {
-            let layout = outline.layout;
-            let order = layout.order;
-            timing::slice_by(acquisition_in(file, order), s)
-        }
-    }
-}
-
-// The fields that Method 3 reads.
-fn sform_in(file: &[u8], order: Order) -> Sform
-    requires { ⌜ 348 ≤ length (now file) ⌝ }
-    ensures { λ r. ⌜ r ≡ sformIn order (now (file .entry)) ⌝ }
-{
-    Sform {
-        dim: header::dims(file, order),
-        sform_code: field::read_i16(file, 254, order),
-        srow_x: header::u32x4(file, 280, order),
-        srow_y: header::u32x4(file, 296, order),
-        srow_z: header::u32x4(file, 312, order),
-    }
-}
-
-// The position of the voxel i, j, k of a file.
-pub fn position_of(file: &[u8], i: u64, j: u64, k: u64) -> Positioned
-    ensures { λ r. ⌜ r ≡ positionAt (now (file .entry)) i j k ⌝ }
-{
-    let outlined = outline::outline_of(file, 0);
-    match outlined {
-        Outlined::Hidden(r) => Positioned::Refused(r),
-        Outlined::Shown(outline) => {
-            let layout = outline.layout;
-            let order = layout.order;
-            position::position_by(sform_in(file, order), i, j, k)
         }
     }
 }

@@ -6,6 +6,7 @@ use mathlib.Core.List.{List}
 use native.Mathlib.Omega.{arith}
 use lib.ListN.{length, getD}
 use Rattle.refusal.specs.declared.Refusal.{Refusal}
+use Rattle.refusal.specs.Table.{decided}
 use Rattle.refusal.proofs.Rows.{accepted-clear}
 use Rattle.extension.specs.declared.Span.{Span}
 use Rattle.extension.specs.Walk.{extensionLimit, firstPlace, Walked, listed, stopped}
@@ -14,6 +15,7 @@ use Rattle.extension.proofs.Listings.{spansOf-at}
 use Rattle.listing.specs.declared.Scanned.{Scanned}
 use Rattle.listing.specs.declared.Scanned.the-variants.{Counted, Broken}
 use Rattle.listing.specs.Scan.{scanOf}
+use Rattle.header.specs.Fields.{headerOf}
 use Rattle.rules.specs.Rules.{regionEnd}
 use Rattle.layout.specs.declared.Layout.{Layout}
 use Rattle.layout.specs.declared.Checked.the-variants.{Fits, Breaks}
@@ -111,5 +113,16 @@ module _ (s : List ℕ) (wanted : ℕ) (o : Outline) (e : outlineOf wanted s ≡
   pub shown-accepted : IsAccepted s
   shown-accepted = rw shown-reading
 
+  pub shown-header : headerOf (o .layout .order) (o .layout .kind) (o .count) (spansOf (shown .list)) s ≡ readingOf s .header
+  shown-header i = sym shown-reading i .header
+
   pub shown-span : getD (spansOf (shown .list)) wanted noSpan ≡ o .span
   shown-span = spansOf-at (shown .list) wanted ∙ shown .span
+
+-- what a call answers by the reading's verdict: of a refused file, and of an accepted one
+module _ {ℓ} {A : Type ℓ} (s : List ℕ) (wanted : ℕ) (a : A) (f : Refusal → A) where
+  pub hidden-answer : (r : Refusal) → outlineOf wanted s ≡ Hidden r → f r ≡ decided (readingOf s .verdict) a f
+  hidden-answer r e = rw (hidden-reading s wanted r e)
+
+  pub shown-answer : (o : Outline) → outlineOf wanted s ≡ Shown o → a ≡ decided (readingOf s .verdict) a f
+  shown-answer o e = rw (shown-accepted s wanted o e)

@@ -1,5 +1,5 @@
 -- What holds of every position: its three values are finite; and in the case that 01-scope.md states it is the exact whole number; and
--- which numbers a refusal has. The crate by_file has the same of files.
+-- which numbers a refusal has. The crate slice_position has the same of files.
 use mathlib.Core.Path.{_≡_, refl, sym, ap, subst, _∙_}
 use mathlib.Core.Bool.{Bool, true, false, not, _&&_, _||_, and-eq-true-iff}
 use mathlib.Core.List.{List, [], _∷_, _++_}

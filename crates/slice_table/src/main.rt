@@ -70,7 +70,7 @@ fn print_refusal(number: u64, place: usize) {
 fn print_slice(file: &[u8], s: u64) {
     say(b"slice ");
     say_number(s);
-    let answer = by_file::slice_at(file, s);
+    let answer = slice_position::slice_at(file, s);
     match answer {
         Slice::Refused(r) => print_refusal(r.number, r.place),
         Slice::Unstated => say(b" unstated"),
@@ -95,7 +95,7 @@ fn print_slices(file: &[u8]) {
 }
 
 fn print_rank(file: &[u8], s: u64) {
-    let answer = by_file::slice_at(file, s);
+    let answer = slice_position::slice_at(file, s);
     match answer {
         Slice::Timed(rank, _) => {
             say(b" ");
@@ -155,7 +155,7 @@ fn print_codes(last: u8)
 
 fn print_position(file: &[u8], i: u64, j: u64, k: u64) {
     say(b"position");
-    let answer = by_file::position_of(file, i, j, k);
+    let answer = slice_position::position_of(file, i, j, k);
     match answer {
         Positioned::At(p) => {
             say(b" ");

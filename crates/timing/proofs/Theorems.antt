@@ -1,6 +1,6 @@
 -- What holds of every slice answer: a timed one has a rank below the number of acquired slices, and a time that is finite and is the
--- exact product rounded once; a slice outside start..end is padding; a refusal has the number that the paper gives. The crate by_file
--- has the same of files.
+-- exact product rounded once; a slice outside start..end is padding; a refusal has the number that the paper gives. The crate
+-- slice_position has the same of files.
 use mathlib.Core.Path.{_≡_, refl, sym, ap, _∙_}
 use mathlib.Core.Bool.{Bool, true, false, cond, not, _||_, or-true, false≢true}
 use mathlib.Core.Logic.{_⊎_, inl, inr}

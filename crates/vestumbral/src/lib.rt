@@ -5,7 +5,8 @@ ghost use mathlib.Core.Path.{_≡_};
 ghost use mathlib.Core.List.{[], _∷_};
 ghost use lib.IntN.{pos};
 ghost use Rattle.reader.specs.Reading.{readingOf};
-ghost use Rattle.by_file.specs.Files.{locatedOf, sliceOf, positionAt};
+ghost use Rattle.by_file.specs.Files.{locatedOf};
+ghost use Rattle.slice_position.specs.Files.{sliceOf, positionAt};
 ghost use Rattle.byteswap.specs.Swap.{swapAnswer, swappedFile, swappedImage};
 ghost use Rattle.change.specs.declared.Change.the-variants.{Append, Replace, Remove};
 ghost use Rattle.edit.specs.Outcome.{outcomeOf, editAnswer, bufferAfter};
@@ -67,7 +68,7 @@ pub extern "C" fn vestumbral_voxel(
 pub extern "C" fn vestumbral_slice_at(file: &[u8], slice: u64) -> SliceAnswer
     ensures { λ a. ⌜ a ≡ sliceAnswer (sliceOf (now (file .entry)) slice) ⌝ }
 {
-    answers::slice_answer(by_file::slice_at(file, slice))
+    answers::slice_answer(slice_position::slice_at(file, slice))
 }
 
 // A position by Method 3: 1 to 15, 17, then 23.
@@ -75,7 +76,7 @@ pub extern "C" fn vestumbral_slice_at(file: &[u8], slice: u64) -> SliceAnswer
 pub extern "C" fn vestumbral_position_of(file: &[u8], i: u64, j: u64, k: u64) -> PositionAnswer
     ensures { λ a. ⌜ a ≡ positionAnswer (positionAt (now (file .entry)) i j k) ⌝ }
 {
-    answers::position_answer(by_file::position_of(file, i, j, k))
+    answers::position_answer(slice_position::position_of(file, i, j, k))
 }
 
 // Swaps the byte order of a file, and of a pair's image file, in place: 1 to 15, 16 for a pair.

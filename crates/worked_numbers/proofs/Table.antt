@@ -19,7 +19,8 @@ use Rattle.layout.specs.File.{holdsIn, orderOf, hasMagic, kindOf, shapeIn, hasN
 use Rattle.reader.specs.Reading.{judgement, readingOf}
 use Rattle.timing.specs.Slices.{isStated, firstOf, sliceBy}
 use Rattle.voxel.specs.Voxel.{locatedBy}
-use Rattle.by_file.specs.Files.{locatedOf, sliceOf}
+use Rattle.by_file.specs.Files.{locatedOf}
+use Rattle.slice_position.specs.Files.{sliceOf}
 use Rattle.buffer.specs.Put.{put}
 use Rattle.buffer.specs.Settled.{settled}
 use Rattle.change.specs.Change.{sizeFor}

@@ -12,7 +12,8 @@ use Rattle.timing.specs.declared.Slice.{Slice}
 use Rattle.timing.specs.declared.Slice.the-variants as slice
 use Rattle.voxel.specs.declared.Located.{Located}
 use Rattle.voxel.specs.declared.Located.the-variants.{At, Unlocated}
-use Rattle.by_file.specs.Files.{locatedOf, sliceOf}
+use Rattle.by_file.specs.Files.{locatedOf}
+use Rattle.slice_position.specs.Files.{sliceOf}
 use Rattle.change.specs.declared.Change.the-variants.{Append}
 use Rattle.edit.specs.declared.Edited.{Edited}
 use Rattle.edit.specs.declared.Edited.the-variants.{Done, Denied}

@@ -1,9 +1,9 @@
 -- `locate` meets its contract: a file's refusal, and else the answer by its outline.
 use mathlib.Core.Path.{sym, _∙_}
 use denote.Ref.{now}
+use Rattle.outline.proofs.Outlines.{hidden-answer, shown-answer}
 use Rattle.voxel.specs.declared.Located.the-variants.{Unlocated}
 use Rattle.by_file.specs.Files.{locatedOf}
-use Rattle.by_file.proofs.Shown.{hidden-answer, shown-answer}
 use borrow.Author.Needs.{needs}
 use Rattle.by_file.proofs.locate.Statement.{statement}
 use Rattle.by_file.proofs.locate.Tie as tie
@@ -25,7 +25,7 @@ unfolding locatedOf
 returns c =
     let k = c .before .before .before in
     let t = c .before .outlined .given in
-    hidden-answer (now (k .before .before .before .args .file)) _ Unlocated (t .0 .0) (sym (k .outline-of .ensures) ∙ t .1)
+    hidden-answer (now (k .before .before .before .args .file)) 0 _ Unlocated (t .0 .0) (sym (k .outline-of .ensures) ∙ t .1)
 
 returns-2 : tie.Need-returns-2
 unfolding locatedOf
@@ -33,7 +33,7 @@ returns-2 c =
     let k = c .before .before .before .before in
     let t = c .before .before .outlined2 .given in
     c .locate-shown .ensures
-    ∙ shown-answer (now (k .before .before .before .args .file)) _ Unlocated (t .0 .0) (sym (k .outline-of .ensures) ∙ t .1)
+    ∙ shown-answer (now (k .before .before .before .args .file)) 0 _ Unlocated (t .0 .0) (sym (k .outline-of .ensures) ∙ t .1)
 
 pub locate-spec : {M : Type 1} → statement M
 locate-spec =

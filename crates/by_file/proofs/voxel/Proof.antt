@@ -5,9 +5,10 @@ use Prim.Native.Nat.{ℕ}
 use denote.Ref.{now}
 use Rattle.outline.specs.declared.Outlined.the-variants.{Shown}
 use Rattle.outline.specs.Outline.{outlineOf}
+use Rattle.outline.proofs.Outlines.{hidden-answer, shown-answer}
 use Rattle.voxel.specs.declared.Located.the-variants.{Unlocated}
 use Rattle.by_file.specs.Files.{locatedOf}
-use Rattle.by_file.proofs.Shown.{hidden-answer, shown-answer, shown-kind}
+use Rattle.by_file.proofs.Shown.{shown-kind}
 use Rattle.by_file.proofs.Voxels.{refused-empty, voxel-in-file, voxel-bytes-are}
 use borrow.Author.Needs.{needs}
 use Rattle.by_file.proofs.voxel.Statement.{statement}
@@ -65,7 +66,7 @@ unfolding locatedOf
 located-is c =
     let k = c .before in
     let S = k .before .before .before .before .before .before in
-    sym (c .locate-shown .ensures ∙ shown-answer (now (S .args .file)) _ Unlocated (k .before .outlined .given .0 .0) (shown-is k))
+    sym (c .locate-shown .ensures ∙ shown-answer (now (S .args .file)) 0 _ Unlocated (k .before .outlined .given .0 .0) (shown-is k))
 
 part-requires : tie.Need-part-requires
 part-requires c κs =
@@ -82,7 +83,7 @@ returns c =
     let k = c .before .before .before in
     let S = k .before .before .before in
     let t = c .before .enum-told .given in
-    let hidden = hidden-answer (now (S .args .file)) _ Unlocated (t .0 .0) (sym (k .outline-of .ensures) ∙ t .1) in
+    let hidden = hidden-answer (now (S .args .file)) 0 _ Unlocated (t .0 .0) (sym (k .outline-of .ensures) ∙ t .1) in
     sym (refused-empty (now (S .args .file)) (now (S .args .image)) (asked S) (t .0 .0) (sym hidden))
 
 returns-2 : tie.Need-returns-2

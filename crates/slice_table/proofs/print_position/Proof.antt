@@ -1,7 +1,7 @@
 -- `print_position` is safe: a position's values are finite.
 use mathlib.Core.Path.{sym, _∙_}
 use denote.Ref.{now}
-use Rattle.by_file.proofs.Positions.{file-position-finite}
+use Rattle.slice_position.proofs.Positions.{file-position-finite}
 use borrow.Author.Needs.{needs}
 use Rattle.slice_table.proofs.print_position.Statement.{statement}
 use Rattle.slice_table.proofs.print_position.Tie as tie

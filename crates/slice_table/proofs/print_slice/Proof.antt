@@ -1,7 +1,7 @@
 -- `print_slice` is safe: a timed answer's time is finite.
 use mathlib.Core.Path.{sym, _∙_}
 use denote.Ref.{now}
-use Rattle.by_file.proofs.Slices.{file-time-finite}
+use Rattle.slice_position.proofs.Slices.{file-time-finite}
 use borrow.Author.Needs.{needs}
 use Rattle.slice_table.proofs.print_slice.Statement.{statement}
 use Rattle.slice_table.proofs.print_slice.Tie as tie

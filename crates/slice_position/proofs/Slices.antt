@@ -22,7 +22,7 @@ use Rattle.timing.specs.declared.Slice.the-variants.{Refused, Padding, Timed}
 use Rattle.timing.specs.Slices.{isStated, sliceCount, firstSlice, lastSlice, acquisitionOf, sliceIn}
 use Rattle.timing.proofs.Theorems.{hasTime, RoundedOnce, timed-is, rank-below-count, time-rounded, outside-padding}
 use Rattle.timing.proofs.Theorems.{refused-same, slice-by-number}
-use Rattle.by_file.specs.Files.{sliceOf}
+use Rattle.slice_position.specs.Files.{sliceOf}
 
 -- slice_end is a number of 16 bits
 last-half : (file : List ℕ) → lastSlice (acquisitionOf (readingOf file .header)) < 32768

@@ -1,14 +1,14 @@
 -- `slice_at` meets its contract: a file's refusal, and else the answer by the fields that its outline finds.
 use mathlib.Core.Path.{sym, _∙_}
 use denote.Ref.{now}
-use Rattle.outline.proofs.Outlines.{shown-long}
+use Rattle.outline.proofs.Outlines.{hidden-answer, shown-answer, shown-long}
 use Rattle.timing.specs.declared.Slice.the-variants.{Refused}
 use Rattle.timing.specs.Slices.{sliceBy}
-use Rattle.by_file.specs.Files.{sliceOf}
-use Rattle.by_file.proofs.Shown.{hidden-answer, shown-answer, shown-acquisition}
+use Rattle.slice_position.specs.Files.{sliceOf}
+use Rattle.slice_position.proofs.Shown.{shown-acquisition}
 use borrow.Author.Needs.{needs}
-use Rattle.by_file.proofs.slice_at.Statement.{statement}
-use Rattle.by_file.proofs.slice_at.Tie as tie
+use Rattle.slice_position.proofs.slice_at.Statement.{statement}
+use Rattle.slice_position.proofs.slice_at.Tie as tie
 
 outline-of-requires : tie.Need-outline-of-requires
 outline-of-requires c κs = search needs
@@ -33,7 +33,7 @@ unfolding sliceOf
 returns c =
     let k = c .before .before .before in
     let t = c .before .outlined .given in
-    hidden-answer (now (k .before .before .args .file)) _ Refused (t .0 .0) (sym (k .outline-of .ensures) ∙ t .1)
+    hidden-answer (now (k .before .before .args .file)) 0 _ Refused (t .0 .0) (sym (k .outline-of .ensures) ∙ t .1)
 
 returns-2 : tie.Need-returns-2
 unfolding sliceOf
@@ -44,7 +44,7 @@ returns-2 c =
     let shown = sym (k .outline-of .ensures) ∙ t .1 in
     c .slice-by .ensures
     ∙ (λ n. sliceBy ((c .before .acquisition-in .ensures ∙ shown-acquisition (now (a .file)) (t .0 .0) shown) n) (a .s))
-    ∙ shown-answer (now (a .file)) _ Refused (t .0 .0) shown
+    ∙ shown-answer (now (a .file)) 0 _ Refused (t .0 .0) shown
 
 pub slice-at-spec : {M : Type 1} → statement M
 slice-at-spec =

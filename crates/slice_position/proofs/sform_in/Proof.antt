@@ -2,10 +2,10 @@
 use mathlib.Core.Path.{_∙_}
 use mir.Syntax.{w16}
 use mir.ValLaws.{toZ-ofZ}
-use Rattle.by_file.specs.Files.{sformIn}
+use Rattle.slice_position.specs.Files.{sformIn}
 use borrow.Author.Needs.{needs}
-use Rattle.by_file.proofs.sform_in.Statement.{statement}
-use Rattle.by_file.proofs.sform_in.Tie as tie
+use Rattle.slice_position.proofs.sform_in.Statement.{statement}
+use Rattle.slice_position.proofs.sform_in.Tie as tie
 
 dims-requires : tie.Need-dims-requires
 dims-requires c κs = search needs

@@ -4,10 +4,10 @@ use denote.Ref.{now}
 use lib.ListN.{getD}
 use mir.Syntax.{w16}
 use mir.ValLaws.{toZ-ofZ}
-use Rattle.by_file.specs.Files.{acquisitionIn}
+use Rattle.slice_position.specs.Files.{acquisitionIn}
 use borrow.Author.Needs.{needs}
-use Rattle.by_file.proofs.acquisition_in.Statement.{statement}
-use Rattle.by_file.proofs.acquisition_in.Tie as tie
+use Rattle.slice_position.proofs.acquisition_in.Statement.{statement}
+use Rattle.slice_position.proofs.acquisition_in.Tie as tie
 
 dims-requires : tie.Need-dims-requires
 dims-requires c κs = search needs

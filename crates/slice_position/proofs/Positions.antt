@@ -26,7 +26,7 @@ use Rattle.position.specs.declared.Positioned.the-variants.{At, Refused}
 use Rattle.position.specs.Positions.{lengthAt, sformOf}
 use Rattle.position.proofs.Theorems.{WholeRows, ExactAt, Answered, position-by-exact, IsFinite, position-by-finite}
 use Rattle.position.proofs.Theorems.{unpositioned-never, refused-same, recordNumber, position-by-number}
-use Rattle.by_file.specs.Files.{positionAt}
+use Rattle.slice_position.specs.Files.{positionAt}
 
 -- the lengths of a file's axes
 axis-half : (dim : List ℤ) (axis : ℕ) → naturalOf (dimAt dim axis) < 32768 → lengthAt dim axis < 32768

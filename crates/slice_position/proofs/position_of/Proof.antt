@@ -1,14 +1,14 @@
 -- `position_of` meets its contract: a file's refusal, and else the answer by the fields that its outline finds.
 use mathlib.Core.Path.{sym, _∙_}
 use denote.Ref.{now}
-use Rattle.outline.proofs.Outlines.{shown-long}
+use Rattle.outline.proofs.Outlines.{hidden-answer, shown-answer, shown-long}
 use Rattle.position.specs.declared.Positioned.the-variants.{Refused}
 use Rattle.position.specs.Positions.{positionBy}
-use Rattle.by_file.specs.Files.{positionAt}
-use Rattle.by_file.proofs.Shown.{hidden-answer, shown-answer, shown-sform}
+use Rattle.slice_position.specs.Files.{positionAt}
+use Rattle.slice_position.proofs.Shown.{shown-sform}
 use borrow.Author.Needs.{needs}
-use Rattle.by_file.proofs.position_of.Statement.{statement}
-use Rattle.by_file.proofs.position_of.Tie as tie
+use Rattle.slice_position.proofs.position_of.Statement.{statement}
+use Rattle.slice_position.proofs.position_of.Tie as tie
 
 outline-of-requires : tie.Need-outline-of-requires
 outline-of-requires c κs = search needs
@@ -33,7 +33,7 @@ unfolding positionAt
 returns c =
     let k = c .before .before .before in
     let t = c .before .outlined .given in
-    hidden-answer (now (k .before .before .args .file)) _ Refused (t .0 .0) (sym (k .outline-of .ensures) ∙ t .1)
+    hidden-answer (now (k .before .before .args .file)) 0 _ Refused (t .0 .0) (sym (k .outline-of .ensures) ∙ t .1)
 
 returns-2 : tie.Need-returns-2
 unfolding positionAt
@@ -44,7 +44,7 @@ returns-2 c =
     let shown = sym (k .outline-of .ensures) ∙ t .1 in
     c .position-by .ensures
     ∙ (λ n. positionBy ((c .before .sform-in .ensures ∙ shown-sform (now (a .file)) (t .0 .0) shown) n) (a .i) (a .j) (a .k))
-    ∙ shown-answer (now (a .file)) _ Refused (t .0 .0) shown
+    ∙ shown-answer (now (a .file)) 0 _ Refused (t .0 .0) shown
 
 pub position-of-spec : {M : Type 1} → statement M
 position-of-spec =
