@@ -1,9 +1,9 @@
 // The layout of a file, by rules 1 to 12: its byte order, its kind and where its image is (01-scope.md, "Refusal
 // numbers", "The header rules"). Of a file's bytes the first 352 are enough, with its length beside them.
 ghost use mathlib.Core.Path.{_≡_};
-ghost use mathlib.Core.Bool.{_||_};
+ghost use mathlib.Core.Bool.{true, _||_};
 ghost use mathlib.Core.List.{[], _∷_};
-ghost use Prim.Native.Nat.{_<_, _≤_, min};
+ghost use Prim.Native.Nat.{ℕ, _<_, _≤_, min};
 ghost use lib.ListN.{length};
 ghost use Rattle.field.specs.declared.Order.the-variants.{Little};
 ghost use Rattle.field.specs.Numbers.{bytesAt, littleValue, u32At};
@@ -51,9 +51,11 @@ fn word_at(file: &[u8], at: usize) -> u32
     if at + 4 <= file.len() {
         return field::read_u32(file, at, Order::Little);
     }
-    let mut four = [0u8; 4];
-    field::copy_out(file, at, &mut four);
-    field::read_u32(&four, 0, Order::Little)
+    let a = field::byte_at(file, at);
+    let b = field::byte_at(file, at + 1);
+    let c = field::byte_at(file, at + 2);
+    let d = field::byte_at(file, at + 3);
+    word_of(a, b, c, d)
 }
 
 // Whether the four bytes at a place are these: one test, of both as numbers.
@@ -71,18 +73,6 @@ fn holds_in(file: &[u8], order: Order) -> bool
 {
     let n = field::read_i16(file, 40, order);
     (1 <= n) & (n <= 7)
-}
-
-// The byte order of a file that rule 2 passes.
-fn order_of(file: &[u8]) -> Order
-    requires { ⌜ 348 ≤ length (now file) ⌝ }
-    ensures { λ r. ⌜ r ≡ orderOf (now (file .entry)) ⌝ }
-{
-    if holds_in(file, Order::Little) {
-        Order::Little
-    } else {
-        Order::Big
-    }
 }
 
 fn has_magic(file: &[u8], kind: Kind) -> bool
@@ -111,18 +101,11 @@ fn unread(number: u64, place: usize) -> Start
     Start::Unread(Refusal { number, place })
 }
 
-// Rules 1 to 4 of a file of `len` bytes.
-fn start_in(file: &[u8], len: usize) -> Start
-    requires { ⌜ min len 348 ≤ length (now file) ⌝ }
-    ensures { λ r. ⌜ r ≡ startIn (now (file .entry)) len ⌝ }
+// Rules 3 and 4 of a file that 1 and 2 pass, with the byte order in which it passes 2.
+fn start_by(file: &[u8], order: Order) -> Start
+    requires { ⌜ (348 ≤ length (now file)) × (orderOf (now file) ≡ order) × (holdsIn order (now file) ≡ true) ⌝ }
+    ensures { λ r. ⌜ ((len : ℕ) → 348 ≤ len → r ≡ startIn (now (file .entry)) len) ⌝ }
 {
-    if len < 348 {
-        return unread(1, 0);
-    }
-    let order = order_of(file);
-    if !holds_in(file, order) {
-        return unread(2, 40);
-    }
     if field::read_i32(file, 0, order) != 348 {
         return unread(3, 0);
     }
@@ -131,6 +114,23 @@ fn start_in(file: &[u8], len: usize) -> Start
         return unread(4, 344);
     }
     Start::Read(order, kind)
+}
+
+// Rules 1 to 4 of a file of `len` bytes. Each byte order has a branch of its own: from there on the compiler knows dim[0].
+fn start_in(file: &[u8], len: usize) -> Start
+    requires { ⌜ min len 348 ≤ length (now file) ⌝ }
+    ensures { λ r. ⌜ r ≡ startIn (now (file .entry)) len ⌝ }
+{
+    if len < 348 {
+        return unread(1, 0);
+    }
+    if holds_in(file, Order::Little) {
+        return start_by(file, Order::Little);
+    }
+    if holds_in(file, Order::Big) {
+        return start_by(file, Order::Big);
+    }
+    unread(2, 40)
 }
 
 // The fields that rules 5 to 10 judge.

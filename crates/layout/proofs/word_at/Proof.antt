@@ -1,10 +1,12 @@
--- `word_at` meets its contract: four bytes that are copied out, with zeros past the end, make the same number.
-use mathlib.Core.Path.{ap, _∙_}
-use mathlib.Core.List.{List}
-use Prim.Native.Nat.{ℕ}
+-- `word_at` meets its contract: four bytes that are read one by one, zeros past the end, make the same number.
+use Prim.Native.Nat.{_+_}
+use mathlib.Core.Path.{_≡_, _∙_}
+use mathlib.Core.List.{[], _∷_}
+use native.Mathlib.Omega.{arith}
 use borrow.Author.Needs.{needs}
-use Rattle.field.specs.declared.Order.the-variants.{Little}
-use Rattle.field.specs.Numbers.{u32At}
+use denote.Ref.{now}
+use lib.ListN.{getD}
+use Rattle.field.specs.Numbers.{littleValue, u32At}
 use Rattle.layout.proofs.word_at.Statement.{statement}
 use Rattle.layout.proofs.word_at.Tie as tie
 
@@ -17,21 +19,46 @@ read-u32-requires c κs = search needs
 returns : tie.Need-returns
 returns c = search needs
 
-slice-aggregate-copy-out : tie.Need-slice-aggregate-copy-out
-slice-aggregate-copy-out c = search needs
+byte-at-requires : tie.Need-byte-at-requires
+byte-at-requires c κs = search needs
 
-copy-out-requires : tie.Need-copy-out-requires
-copy-out-requires c κs = search needs
+add-byte-at : tie.Need-add-byte-at
+add-byte-at c = search needs
 
-slice-aggregate-read-u32 : tie.Need-slice-aggregate-read-u32
-slice-aggregate-read-u32 c = search needs
+byte-at-requires-2 : tie.Need-byte-at-requires-2
+byte-at-requires-2 c κs = search needs
 
-read-u32-requires-2 : tie.Need-read-u32-requires-2
-read-u32-requires-2 c κs = search needs
+add-byte-at-2 : tie.Need-add-byte-at-2
+add-byte-at-2 c = search needs
+
+byte-at-requires-3 : tie.Need-byte-at-requires-3
+byte-at-requires-3 c κs = search needs
+
+add-byte-at-3 : tie.Need-add-byte-at-3
+add-byte-at-3 c = search needs
+
+byte-at-requires-4 : tie.Need-byte-at-requires-4
+byte-at-requires-4 c κs = search needs
+
+word-of-requires : tie.Need-word-of-requires
+word-of-requires c κs = search needs
 
 returns-2 : tie.Need-returns-2
 unfolding u32At
-returns-2 c = c .read-u322 .ensures ∙ ap (λ (l : List ℕ). u32At Little l 0) (c .before .before .before .copy-out .ensures)
+returns-2 c =
+    let z = c .before .before in
+    let y = z .before in
+    let x = y .before in
+    let a = x .before .before .before .args in
+    let from : a .at ≡ a .at + 0 = omega arith in
+    c .word-of .ensures
+    ∙ (λ i.
+    littleValue
+    ((x .byte-at .ensures ∙ (λ j. getD (now (a .file)) (from j) 0)) i
+    ∷ y .byte-at2 .ensures i
+    ∷ z .byte-at3 .ensures i
+    ∷ c .before .byte-at4 .ensures i
+    ∷ []))
 
 pub word-at-spec : {M : Type 1} → statement M
 word-at-spec =
@@ -40,8 +67,12 @@ word-at-spec =
     add-if1
     read-u32-requires
     returns
-    slice-aggregate-copy-out
-    copy-out-requires
-    slice-aggregate-read-u32
-    read-u32-requires-2
+    byte-at-requires
+    add-byte-at
+    byte-at-requires-2
+    add-byte-at-2
+    byte-at-requires-3
+    add-byte-at-3
+    byte-at-requires-4
+    word-of-requires
     returns-2)
