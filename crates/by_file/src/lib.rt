@@ -24,7 +24,7 @@ fn locate_shown(file: &[u8], outline: Outline, len: usize, index: [u64; 7]) -> L
     let order = layout.order;
     let kind = layout.kind;
     let image = layout.image;
-    if rules::image_cut(kind, len, image) {
+    if bounds::image_cut(kind, len, image) {
         return Located::Unlocated(Refusal {
             number: 16,
             place: 0,

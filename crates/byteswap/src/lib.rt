@@ -22,7 +22,7 @@ fn swap_shown(file: &mut [u8], image: &mut [u8], outline: Outline) -> Verdict
     let order = layout.order;
     let kind = layout.kind;
     let place = layout.image;
-    if rules::image_cut(kind, image.len(), place) {
+    if bounds::image_cut(kind, image.len(), place) {
         return Verdict::Refused(Refusal {
             number: 16,
             place: 0,

@@ -54,7 +54,7 @@ fn plan_list(
     let image = layout.image;
     let count = outline.count;
     let span = outline.span;
-    let end = number::greater(rules::region_end(kind, image, file.len()), FIRST);
+    let end = number::greater(bounds::region_end(kind, image, file.len()), FIRST);
     if change::is_missing(change, count) {
         return stop(18);
     }

@@ -174,7 +174,7 @@ pub fn has_extensions(file: &[u8]) -> bool
 fn check_end(file: &[u8], len: usize, kind: Kind, image: Image) -> Verdict
     ensures { λ r. ⌜ r ≡ verdict (endRows kind image (now (file .entry)) len) ⌝ }
 {
-    if rules::cut_short(kind, len, image) {
+    if bounds::cut_short(kind, len, image) {
         return Verdict::Refused(Refusal {
             number: 11,
             place: 108,

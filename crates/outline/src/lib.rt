@@ -33,7 +33,7 @@ fn scan_in(file: &[u8], layout: Layout, wanted: usize) -> Scanned
         let order = layout.order;
         let kind = layout.kind;
         let image = layout.image;
-        let end = rules::region_end(kind, image, file.len());
+        let end = bounds::region_end(kind, image, file.len());
         listing::scan(file, order, end, wanted)
     } else {
         Scanned::Counted(

@@ -30,7 +30,7 @@ pub fn list_in(file: &[u8], layout: Layout) -> Listing
         let order = layout.order;
         let kind = layout.kind;
         let image = layout.image;
-        listing::list(file, order, rules::region_end(kind, image, file.len()))
+        listing::list(file, order, bounds::region_end(kind, image, file.len()))
     } else {
         Listing {
             verdict: Verdict::Accepted,

@@ -1,5 +1,5 @@
-// Rules 5 to 10 of the refusal table: what is judged of a header's fields alone, for the reader and for the writer; and
-// rules 11 and 16, whether a file holds the image (01-scope.md, "Refusal numbers" and "The header rules").
+// Rules 5 to 10 of the refusal table: what is judged of a header's fields alone, for the reader and for the writer
+// (01-scope.md, "Refusal numbers" and "The header rules").
 ghost use mathlib.Core.Path.{_≡_};
 ghost use mathlib.Core.Bool.{true};
 ghost use Prim.Native.Nat.{_≤_};
@@ -7,7 +7,6 @@ ghost use Rattle.number.specs.Natural.{naturalOf};
 ghost use Rattle.datatype.specs.Datatypes.{datatypeOf, isNumber};
 ghost use Rattle.offset.specs.Offset.{isWhole, wholeOf};
 ghost use Rattle.rules.specs.Rules.{judgedOf, shapeOfRecord, recordJudged, offsetOutside, axisCount, firstBad};
-ghost use Rattle.rules.specs.Rules.{isShort, cutShort, imageCut, regionEnd};
 use datatype::Datatype;
 use datatype::Format;
 use header::Header;
@@ -143,47 +142,4 @@ pub fn judge_record(h: Header) -> Judged
         return failed(2, 40);
     }
     judge(shape, 0)
-}
-
-// Whether a file of `len` bytes ends before its image does. Offset and bytes are not added: of any two numbers the sum
-// could wrap.
-fn is_short(len: usize, image: Image) -> bool
-    ensures { λ r. ⌜ r ≡ isShort len image ⌝ }
-{
-    let n = len as u64;
-    if n < image.offset {
-        true
-    } else {
-        n - image.offset < image.bytes
-    }
-}
-
-// Rule 11.
-pub fn cut_short(kind: Kind, len: usize, image: Image) -> bool
-    ensures { λ r. ⌜ r ≡ cutShort kind len image ⌝ }
-{
-    match kind {
-        Kind::Single => is_short(len, image),
-        Kind::Pair => false,
-    }
-}
-
-// Rule 16. `len` is the length of a pair's image file.
-pub fn image_cut(kind: Kind, len: usize, image: Image) -> bool
-    ensures { λ r. ⌜ r ≡ imageCut kind len image ⌝ }
-{
-    match kind {
-        Kind::Single => false,
-        Kind::Pair => is_short(len, image),
-    }
-}
-
-// Where the region of the extensions ends, in a file of `len` bytes.
-pub fn region_end(kind: Kind, image: Image, len: usize) -> usize
-    ensures { λ r. ⌜ r ≡ regionEnd kind image len ⌝ }
-{
-    match kind {
-        Kind::Single => image.offset as usize,
-        Kind::Pair => len,
-    }
 }

@@ -51,7 +51,7 @@ fn locate_passed(header: Header, image: Image, len: usize, index: [u64; 7]) -> L
     ensures { λ r. ⌜ r ≡ locatedIn header len index ⌝ }
 {
     let kind = header.kind;
-    if rules::image_cut(kind, len, image) {
+    if bounds::image_cut(kind, len, image) {
         return unlocated(16, 0);
     }
     let dim = header.dim;

@@ -1,7 +1,7 @@
 -- `image_cut` meets its contract: only a pair is asked.
 use borrow.Author.Needs.{needs}
-use Rattle.rules.proofs.image_cut.Statement.{statement}
-use Rattle.rules.proofs.image_cut.Tie as tie
+use Rattle.bounds.proofs.image_cut.Statement.{statement}
+use Rattle.bounds.proofs.image_cut.Tie as tie
 
 enum-told : tie.Need-enum-told
 enum-told c = search needs

@@ -1,7 +1,7 @@
 -- `cut_short` meets its contract: only a single file is asked.
 use borrow.Author.Needs.{needs}
-use Rattle.rules.proofs.cut_short.Statement.{statement}
-use Rattle.rules.proofs.cut_short.Tie as tie
+use Rattle.bounds.proofs.cut_short.Statement.{statement}
+use Rattle.bounds.proofs.cut_short.Tie as tie
 
 enum-told : tie.Need-enum-told
 enum-told c = search needs

@@ -5,8 +5,8 @@ use mathlib.Core.Bool.{Bool, true, false}
 use native.Mathlib.Omega.{arith}
 use borrow.Author.Tests.{lt-ltb, le-ltb, ltb-true, ltb-false}
 use lib.Dec.{ltb}
-use Rattle.rules.proofs.is_short.Statement.{statement}
-use Rattle.rules.proofs.is_short.Tie as tie
+use Rattle.bounds.proofs.is_short.Statement.{statement}
+use Rattle.bounds.proofs.is_short.Tie as tie
 
 past-offset : (n offset bytes : ℕ) → offset ≤ n → ltb (n - offset) bytes ≡ ltb n (offset + bytes)
 past-offset n offset bytes h = by (ltb n (offset + bytes)) refl
