@@ -1,5 +1,5 @@
-// Where a file ends its image and its extensions: rules 11 and 16, whether it holds the image, and the end of the region of the
-// extensions (01-scope.md, "Refusal numbers" and "Extensions").
+// Whether a file holds its image, by rules 11 and 16, and where the region of its extensions ends (01-scope.md, "Refusal numbers"
+// and "Extensions").
 ghost use mathlib.Core.Path.{_≡_};
 ghost use Rattle.rules.specs.Rules.{isShort, cutShort, imageCut, regionEnd};
 use header::Kind;
