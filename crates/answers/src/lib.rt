@@ -98,7 +98,7 @@ pub fn refused_file(r: Refusal) -> FileAnswer
     }
 }
 
-fn big_endian(order: Order) -> u32
+pub fn big_endian(order: Order) -> u32
     ensures { λ a. ⌜ a ≡ bigEndian order ⌝ }
 {
     match order {
@@ -107,7 +107,7 @@ fn big_endian(order: Order) -> u32
     }
 }
 
-fn is_pair(kind: Kind) -> u32
+pub fn is_pair(kind: Kind) -> u32
     ensures { λ a. ⌜ a ≡ isPair kind ⌝ }
 {
     match kind {

@@ -13,7 +13,7 @@ use Rattle.field.specs.declared.Order.{Order}
 use Rattle.field.specs.Numbers.{i32At}
 use Rattle.refusal.specs.Table.{row, refusal, verdict, decided}
 use Rattle.extension.specs.declared.Span.{Span}
-use Rattle.extension.specs.Walk.{extensionLimit, sizeRule, span, spanAt, Found, extension, ended, refused, foundBy, found}
+use Rattle.extension.specs.Walk.{extensionLimit, sizeRule, span, Found, extension, ended, refused, foundBy, found}
 use Rattle.extension.proofs.Signs.{Ruled, ruled, rule-short}
 
 module _ (before at n : ℕ) (size code : ℤ) where
@@ -82,28 +82,33 @@ end-tests false t₂ false false true p y e = (cc, (cc))
 end-tests false t₂ false false false p y e = (cc, (cc))
 
 -- what holds where an extension is found
-pub record Taken (order : Order) (before at : ℕ) (rest : List ℕ) (x : Span) : Type 0 where
+pub record TakenBy (before at n : ℕ) (s c : ℤ) (x : Span) : Type 0 where
   pub more : before < extensionLimit
-  pub span : x ≡ spanAt order at rest
-  pub size : Ruled (x .size) (length rest)
+  pub span : x ≡ span at s c
+  pub size : Ruled (x .size) n
   pub code : ltZ (x .code) (pos 0) ≡ false
 
-module _ (order : Order) (before at : ℕ) (rest : List ℕ) where
-  abbrev sized : Bool
-  sized = sizeRule (i32At order rest 0) (length rest)
-
-  abbrev negative : Bool
-  negative = ltZ (i32At order rest 4) (pos 0)
-
-  pub taken : (x : Span) → found order before at rest ≡ extension x → Taken order before at rest x
-  unfolding found
-  taken x e =
-      let t = tests (eqb (length rest) 0) (eqb before 0) (leb extensionLimit before) (not sized) negative at (spanAt order at rest) x e in
-      let r = ruled (i32At order rest 0) (length rest) (not-false sized (t .1)) in
+module _ (before at n : ℕ) (size code : ℤ) where
+  pub taken-by : (x : Span) → foundBy before at n size code ≡ extension x → TakenBy before at n size code x
+  taken-by x e =
+      let t = tests (eqb n 0) (eqb before 0) (leb extensionLimit before) (not (sizeRule size n)) (ltZ code (pos 0)) at (span at size code) x e in
+      let r = ruled size n (not-false (sizeRule size n) (t .1)) in
       rw (← t .3) record { more = leb-false extensionLimit before (t .0); span = refl; size = r; code = t .2 }
+
+  ended-by : foundBy before at n size code ≡ ended → (n ≡ 0) × (before ≡ 0 → ⊥)
+  ended-by e =
+      let t = end-tests (eqb n 0) (eqb before 0) (leb extensionLimit before) (not (sizeRule size n)) (ltZ code (pos 0)) at (span at size code) e in
+      (eqb-true n 0 (t .0), eqb-false before 0 (t .1))
+
+-- the same of a region's bytes
+module _ (order : Order) (before at : ℕ) (rest : List ℕ) where
+  abbrev pub Taken : Span → Type 0
+  Taken x = TakenBy before at (length rest) (i32At order rest 0) (i32At order rest 4) x
+
+  pub taken : (x : Span) → found order before at rest ≡ extension x → Taken x
+  unfolding found
+  taken x e = taken-by before at (length rest) (i32At order rest 0) (i32At order rest 4) x e
 
   pub at-end : found order before at rest ≡ ended → (length rest ≡ 0) × (before ≡ 0 → ⊥)
   unfolding found
-  at-end e =
-      let t = end-tests (eqb (length rest) 0) (eqb before 0) (leb extensionLimit before) (not sized) negative at (spanAt order at rest) e in
-      (eqb-true (length rest) 0 (t .0), eqb-false before 0 (t .1))
+  at-end e = ended-by before at (length rest) (i32At order rest 0) (i32At order rest 4) e

@@ -67,7 +67,7 @@ fn is_four(file: &[u8], at: usize, a: u8, b: u8, c: u8, d: u8) -> bool
 }
 
 // Whether dim[0] is in 1..7 in a byte order.
-fn holds_in(file: &[u8], order: Order) -> bool
+pub fn holds_in(file: &[u8], order: Order) -> bool
     requires { ⌜ 348 ≤ length (now file) ⌝ }
     ensures { λ r. ⌜ r ≡ holdsIn order (now (file .entry)) ⌝ }
 {
@@ -85,7 +85,7 @@ fn has_magic(file: &[u8], kind: Kind) -> bool
 }
 
 // The kind of a file that rule 4 passes.
-fn kind_of(file: &[u8]) -> Kind
+pub fn kind_of(file: &[u8]) -> Kind
     ensures { λ r. ⌜ r ≡ kindOf (now (file .entry)) ⌝ }
 {
     if has_magic(file, Kind::Single) {

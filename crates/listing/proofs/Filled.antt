@@ -21,7 +21,7 @@ use Rattle.extension.proofs.Fills.{fills-at, extensions-fill, walk-reads}
 use Rattle.listing.specs.Scan.{keptOf}
 use Rattle.listing.proofs.Passed.{Passed, pass-taken, pass-room, pass-turn}
 
-spans-more : (ys : List Span) (x : Span) → length ys < extensionLimit
+pub spans-more : (ys : List Span) (x : Span) → length ys < extensionLimit
     → set (spansOf ys) (length ys) x ≡ spansOf (ys ++ (x ∷ []))
 unfolding spansOf
 spans-more ys x h =

@@ -1,2 +1,2 @@
-mod Passed
-mod Filled
+pub mod Passed
+pub mod Filled

@@ -38,18 +38,18 @@ pub pass-none : (file : List ℕ) (w : Walker) → w .at ≡ firstPlace → w .c
 unfolding extensionsIn
 pass-none file w a n = record { counted = sym n; most = omega (arith, n); rest = rw (a, n) (after-none _) }
 
-stepped : (w next : Walker) (f : Found) (x : Span) → stepFrom w f ≡ Extension x next
+pub stepped : (w next : Walker) (f : Found) (x : Span) → stepFrom w f ≡ Extension x next
     → (f ≡ extension x) × (past w x ≡ next)
 stepped w next (extension y) x e = (cc, (cc))
 stepped w next ended x e = (cc, (cc))
 stepped w next (refused r) x e = (cc, (cc))
 
-stepped-end : (w : Walker) (f : Found) → stepFrom w f ≡ End → f ≡ ended
+pub stepped-end : (w : Walker) (f : Found) → stepFrom w f ≡ End → f ≡ ended
 stepped-end w (extension y) e = cc
 stepped-end w ended e = refl
 stepped-end w (refused r) e = cc
 
-stepped-halt : (w : Walker) (f : Found) (r : Refusal) → stepFrom w f ≡ Halt r → f ≡ refused r
+pub stepped-halt : (w : Walker) (f : Found) (r : Refusal) → stepFrom w f ≡ Halt r → f ≡ refused r
 stepped-halt w (extension y) r e = cc
 stepped-halt w ended r e = cc
 stepped-halt w (refused q) r e = cc

@@ -1,7 +1,7 @@
-// Small numbers' tools that several crates share: the lesser and the greater of two, and a signed 16-bit number as a
-// length.
+// Small numbers' tools that several crates share: the lesser and the greater of two, their difference, and a signed
+// 16-bit number as a length.
 ghost use mathlib.Core.Path.{_≡_};
-ghost use Prim.Native.Nat.{_≤_, min, max};
+ghost use Prim.Native.Nat.{_-_, _≤_, min, max};
 ghost use Rattle.number.specs.Natural.{naturalOf};
 
 // The lesser of two numbers.
@@ -16,6 +16,13 @@ pub fn greater(a: usize, b: usize) -> usize
     ensures { λ r. ⌜ r ≡ max a b ⌝ }
 {
     if a < b { b } else { a }
+}
+
+// What is left of a when b is taken off it: 0 where b is more.
+pub fn minus(a: usize, b: usize) -> usize
+    ensures { λ r. ⌜ r ≡ a - b ⌝ }
+{
+    if b < a { a - b } else { 0 }
 }
 
 // A signed number as an unsigned one: 0 where it is negative.

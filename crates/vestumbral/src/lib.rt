@@ -12,12 +12,17 @@ ghost use Rattle.change.specs.declared.Change.the-variants.{Append, Replace, Re
 ghost use Rattle.edit.specs.Outcome.{outcomeOf, editAnswer, bufferAfter};
 ghost use Rattle.answers.specs.Answers.{voxelReply, swapReply, editReply, fileAnswer, extensionAnswer, sliceAnswer};
 ghost use Rattle.answers.specs.Answers.{positionAnswer};
+ghost use Rattle.piece_reader.specs.Pieces.{fresh, takenOf};
+ghost use Rattle.piece_reader.specs.Answer.{answerOf};
+ghost use Rattle.piece_answers.specs.Answers.{takenAnswer};
 use answers::ExtensionAnswer;
 use answers::FileAnswer;
 use answers::PositionAnswer;
 use answers::Reply;
 use answers::SliceAnswer;
 use outline::Outlined;
+use piece_answers::TakenAnswer;
+use piece_reader::Pieces;
 
 // Reads a file: what it shows of the record, or the refusal, 1 to 15.
 #[no_mangle]
@@ -138,4 +143,36 @@ pub extern "C" fn vestumbral_remove(buffer: &mut [u8], file_len: u64, number: u6
 {
     let edited = edit::remove(buffer, file_len as usize, number as usize);
     answers::edit_reply(edited)
+}
+
+// A file that comes in pieces: the state before the first one.
+#[no_mangle]
+pub extern "C" fn vestumbral_pieces_start() -> Pieces
+    ensures { λ a. ⌜ a ≡ fresh ⌝ }
+{
+    Pieces::start()
+}
+
+// The state with a piece; or 25, and the state as it was handed in.
+#[no_mangle]
+pub extern "C" fn vestumbral_pieces_take(pieces: Pieces, piece: &[u8]) -> TakenAnswer
+    ensures { λ a. ⌜ a ≡ takenAnswer (takenOf pieces (now (piece .entry))) ⌝ }
+{
+    piece_answers::taken_answer(pieces, piece)
+}
+
+// What vestumbral_read answers of the bytes so far: 1 to 15.
+#[no_mangle]
+pub extern "C" fn vestumbral_pieces_file(pieces: Pieces) -> FileAnswer
+    ensures { λ a. ⌜ a ≡ fileAnswer (answerOf pieces) ⌝ }
+{
+    piece_answers::file_answer(pieces)
+}
+
+// What vestumbral_extension_at answers of them: 1 to 15, then 18.
+#[no_mangle]
+pub extern "C" fn vestumbral_pieces_extension_at(pieces: Pieces, number: u64) -> ExtensionAnswer
+    ensures { λ a. ⌜ a ≡ extensionAnswer (answerOf pieces) number ⌝ }
+{
+    piece_answers::extension_answer(pieces, number)
 }

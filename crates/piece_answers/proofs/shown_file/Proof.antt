@@ -1,0 +1,43 @@
+-- `shown_file` meets its contract, field by field.
+use mathlib.Core.Path.{_≡_}
+use mir.Syntax.{w16}
+use mir.Val.{toZ, ofZ}
+use borrow.Author.Needs.{needs}
+use Rattle.piece_answers.proofs.shown_file.Statement.{statement}
+use Rattle.piece_answers.proofs.shown_file.Tie as tie
+use Rattle.piece_answers.proofs.shown_file.Reads as reads
+use Rattle.piece_answers.proofs.shown_file.Lts as lts
+use Rattle.answers.proofs.big_endian.Reads as big-endian-reads
+use Rattle.answers.proofs.is_pair.Reads as is-pair-reads
+
+big-endian-requires : tie.Need-big-endian-requires
+big-endian-requires c κs = search needs
+
+is-pair-requires : tie.Need-is-pair-requires
+is-pair-requires c κs = search needs
+
+cast-t9 : tie.Need-cast-t9
+cast-t9 c = search needs
+
+returns : tie.Need-returns
+returns c =
+    let b = c .before .before in
+    let a = b .before .before .before .before .args in
+    let h = a .header in
+    let datatype : toZ w16 (ofZ w16 (h .intent .datatype)) ≡ h .intent .datatype = search needs in
+    let bitpix : toZ w16 (ofZ w16 (h .intent .bitpix)) ≡ h .intent .bitpix = search needs in
+    λ i. record {
+      refusal = 0;
+      place = 0;
+      «data_offset» = a .image .offset;
+      «data_bytes» = a .image .bytes;
+      «big_endian» = b .before .big-endian .ensures i;
+      pair = b .is-pair .ensures i;
+      dim = h .dim;
+      datatype = datatype i;
+      bitpix = bitpix i;
+      extensions = h .count;
+    }
+
+pub shown-file-spec : {M : Type 1} → statement M
+shown-file-spec = tie.close (tie.spec big-endian-requires is-pair-requires cast-t9 returns)

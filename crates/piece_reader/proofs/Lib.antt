@@ -1,0 +1,6 @@
+mod Totals
+mod Fronts
+mod Kept
+pub mod Answers
+pub mod Theorems
+pub mod Voxels

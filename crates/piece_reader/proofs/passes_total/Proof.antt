@@ -1,0 +1,20 @@
+-- `passes_total` meets its contract: the test without the sum is the test of the sum.
+use Prim.Native.Nat.{_+_, _-_}
+use mathlib.Core.Path.{sym}
+use native.Mathlib.Omega.{arith}
+use borrow.Author.Tests.{lt-ltb}
+use Rattle.piece_reader.specs.Pieces.{totalLimit}
+use Rattle.piece_reader.proofs.Totals.{without-sum}
+use Rattle.piece_reader.proofs.passes_total.Statement.{statement}
+use Rattle.piece_reader.proofs.passes_total.Tie as tie
+use Rattle.piece_reader.proofs.passes_total.Reads as reads
+use Rattle.piece_reader.proofs.passes_total.Lts as lts
+
+returns : tie.Need-returns
+returns c = let a = c .before .args in sym (lt-ltb totalLimit (a .taken + a .len) (omega arith))
+
+returns-2 : tie.Need-returns-2
+returns-2 c = let a = c .before .args in without-sum totalLimit (a .taken) (a .len) (omega arith)
+
+pub passes-total-spec : {M : Type 1} → statement M
+passes-total-spec = tie.close (tie.spec returns returns-2)

@@ -1,0 +1,4 @@
+pub mod Pieces
+pub mod Answer
+pub mod Feeding
+pub mod Kept

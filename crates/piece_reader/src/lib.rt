@@ -1,0 +1,202 @@
+// Reading a file that comes in pieces of any length (02-change-requests.md, P1). Kept are its first 352 bytes, the spans
+// of the extensions that have come whole and the first eight bytes of the next one; payload and voxels are skipped. The
+// state is a value, and any state gets an answer.
+ghost use mathlib.Core.Path.{_≡_};
+ghost use Prim.Native.Nat.{_+_, _≤_};
+ghost use lib.ListN.{length};
+ghost use Rattle.layout.specs.File.{orderOf, checkedIn};
+ghost use Rattle.piece_reader.specs.Pieces.{passesTotal, frontWith, endBy, endIn, walkWith, fresh, takenOf};
+ghost use Rattle.piece_reader.specs.Answer.{listedBy, answerBy, answerOf};
+use extension::LIMIT;
+use extension::Step;
+use extension::Walker;
+use field::Order;
+use header::Kind;
+use layout::Checked;
+use layout::Layout;
+use offset::Offset;
+use piece_walk::Walk;
+use reader::Reading;
+use refusal::Refusal;
+use refusal::Verdict;
+
+// The most bytes that are taken in all.
+const TOTAL: usize = 2199023255552;
+
+// What is kept of a file between two pieces: how many bytes came, the first 352 of them, and the walk over the extensions.
+#[repr(C)]
+pub struct Pieces {
+    pub taken: usize,
+    pub front: [u8; 352],
+    pub walk: Walk,
+}
+
+// What a piece leaves: a verdict, and the state, which a refusal leaves as it was.
+pub struct Taken {
+    pub verdict: Verdict,
+    pub pieces: Pieces,
+}
+
+// Whether a piece would pass the total. No sum is made, so none can wrap.
+fn passes_total(taken: usize, len: usize) -> bool
+    ensures { λ r. ⌜ r ≡ passesTotal taken len ⌝ }
+{
+    if TOTAL < taken {
+        return true;
+    }
+    TOTAL - taken < len
+}
+
+// The first 352 bytes, with those that a piece brings.
+fn front_with(old: [u8; 352], taken: usize, piece: &[u8]) -> [u8; 352]
+    ensures { λ r. ⌜ r ≡ frontWith old taken (now (piece .entry)) ⌝ }
+{
+    if 352 <= taken {
+        return old;
+    }
+    let mut out = [0u8; 352];
+    piece_walk::window_out(&old, 0, 352, taken, piece, &mut out);
+    out
+}
+
+// The byte order, by dim[0].
+fn order_of(front: &[u8]) -> Order
+    requires { ⌜ 348 ≤ length (now front) ⌝ }
+    ensures { λ r. ⌜ r ≡ orderOf (now (front .entry)) ⌝ }
+{
+    if layout::holds_in(front, Order::Little) {
+        Order::Little
+    } else {
+        Order::Big
+    }
+}
+
+// Where a file's extensions end at the latest, by its kind and offset.
+fn end_by(kind: Kind, offset: Offset) -> usize
+    ensures { λ r. ⌜ r ≡ endBy kind offset ⌝ }
+{
+    match kind {
+        Kind::Pair => TOTAL,
+        Kind::Single => match offset {
+            Offset::Whole(at) => at as usize,
+            Offset::NotWhole => 0,
+            Offset::TooLarge => 0,
+        },
+    }
+}
+
+fn end_in(front: &[u8], order: Order) -> usize
+    requires { ⌜ 348 ≤ length (now front) ⌝ }
+    ensures { λ r. ⌜ r ≡ endIn order (now (front .entry)) ⌝ }
+{
+    if !layout::has_extensions(front) {
+        return 0;
+    }
+    end_by(
+        layout::kind_of(front),
+        offset::decode(field::read_u32(front, 108, order)),
+    )
+}
+
+// The walk with a piece, by the first 352 bytes as they are known with it.
+fn walk_with(front: &[u8], walk: Walk, taken: usize, piece: &[u8]) -> Walk
+    requires { ⌜ (348 ≤ length (now front)) × (taken + length (now piece) ≤ 2199023255552) ⌝ }
+    ensures { λ r. ⌜ r ≡ walkWith (now (front .entry)) walk taken (now (piece .entry)) ⌝ }
+{
+    let order = order_of(front);
+    let end = end_in(front, order);
+    piece_walk::walk_on(order, end, walk, taken, piece)
+}
+
+// Rules 13 to 15 of what stands where the walk has come to, now that the length is known; where they pass, the record.
+fn listed(front: &[u8], layout: Layout, taken: usize, walk: Walk) -> Reading
+    requires { ⌜ 348 ≤ length (now front) ⌝ }
+    ensures { λ r. ⌜ r ≡ listedBy (now (front .entry)) layout taken walk ⌝ }
+{
+    if !layout::has_extensions(front) {
+        return reader::accepted(front, layout, 0, listing::no_spans());
+    }
+    let order = layout.order;
+    let walker = Walker {
+        order,
+        end: end_in(front, order),
+        at: walk.at,
+        count: walk.count,
+    };
+    let coming = walk.coming;
+    let spans = walk.spans;
+    let count = number::lesser(walk.count, LIMIT);
+    let step = piece_walk::step_by(walker, coming, taken);
+    match step {
+        Step::Halt(r) => reader::refused(r),
+        Step::End => reader::accepted(front, layout, count, spans),
+        Step::Extension(_, _) => reader::accepted(front, layout, count, spans),
+    }
+}
+
+// Rules 1 to 12 by the first 352 bytes and the length, then the others.
+fn answer_in(front: [u8; 352], taken: usize, walk: Walk) -> Reading
+    ensures { λ r. ⌜ r ≡ answerBy (checkedIn front taken) front taken walk ⌝ }
+{
+    let checked = layout::check_in(&front, taken);
+    match checked {
+        Checked::Breaks(r) => reader::refused(r),
+        Checked::Fits(layout) => listed(&front, layout, taken, walk),
+    }
+}
+
+impl Pieces {
+    // The state before the first piece.
+    pub fn start() -> Self
+        ensures { λ r. ⌜ r ≡ fresh ⌝ }
+    {
+        Self {
+            taken: 0,
+            front: [0u8; 352],
+            walk: Walk {
+                at: 352,
+                count: 0,
+                coming: [0u8; 8],
+                spans: listing::no_spans(),
+            },
+        }
+    }
+
+    // The state with a piece; or 25, and the state as it was.
+    pub fn take(self, piece: &[u8]) -> Taken
+        ensures { λ r. ⌜ r ≡ takenOf self (now (piece .entry)) ⌝ }
+    {
+        let taken = self.taken;
+        if passes_total(taken, piece.len()) {
+            return Taken {
+                verdict: Verdict::Refused(Refusal {
+                    number: 25,
+                    place: 0,
+                }),
+                pieces: self,
+            };
+        }
+        let old = self.front;
+        let front = front_with(old, taken, piece);
+        let before = self.walk;
+        let walk = walk_with(&front, before, taken, piece);
+        let total = taken + piece.len();
+        Taken {
+            verdict: Verdict::Accepted,
+            pieces: Pieces {
+                taken: total,
+                front,
+                walk,
+            },
+        }
+    }
+
+    // The reading of the bytes so far. The state may be fed on.
+    pub fn answer(self) -> Reading
+        ensures { λ r. ⌜ r ≡ answerOf self ⌝ }
+    {
+        let front = self.front;
+        let walk = self.walk;
+        answer_in(front, self.taken, walk)
+    }
+}

@@ -1,0 +1,4 @@
+mod Passing
+pub mod Windows
+mod More
+pub mod Standing

@@ -1,0 +1,118 @@
+// The walk over a file's extensions where the file comes in pieces (02-change-requests.md, P1): how far the bytes so far
+// take it. It passes an extension when that has come whole, and not before. Payload bytes are not read, and of the
+// extension that is coming its first eight are kept.
+ghost use mathlib.Core.Path.{_≡_};
+ghost use Prim.Native.Nat.{_+_, _<_};
+ghost use lib.ListN.{length};
+ghost use Rattle.piece_walk.specs.Window.{windowByte, window};
+ghost use Rattle.piece_walk.specs.Walking.{stepBy, walkedOn};
+use extension::LIMIT;
+use extension::Span;
+use extension::Step;
+use extension::Walker;
+use field::Order;
+
+// The walk so far: where it stands, how many extensions it has passed and their spans, and the first eight bytes of the
+// one that is coming. Those that have not come, and those from the region's end on, are 0.
+#[repr(C)]
+pub struct Walk {
+    pub at: usize,
+    pub count: usize,
+    pub coming: [u8; 8],
+    pub spans: [Span; LIMIT],
+}
+
+// A byte of a window: of those before `taken` the old window has it, of the others the piece.
+fn window_byte(old: &[u8], at: usize, end: usize, taken: usize, piece: &[u8], i: usize) -> u8
+    ensures { λ r. ⌜ r ≡ windowByte at end taken (now (old .entry)) (now (piece .entry)) i ⌝ }
+{
+    if number::minus(end, at) <= i {
+        return 0;
+    }
+    let place = at + i;
+    if place < taken {
+        field::byte_at(old, i)
+    } else {
+        field::byte_at(piece, place - taken)
+    }
+}
+
+// The bytes from `at` on, as many as `out` takes, once `piece` has come after `taken` bytes. From `end` on they are 0.
+pub fn window_out(old: &[u8], at: usize, end: usize, taken: usize, piece: &[u8], out: &mut [u8])
+    ensures { λ _. ⌜ now (out .exit) ≡ window at (length (now (out .entry))) end taken (now (old .entry)) (now (piece .entry)) ⌝ }
+{
+    let mut i = 0;
+    while i < out.len() {
+        out[i] = window_byte(old, at, end, taken, piece, i);
+        i += 1;
+    }
+}
+
+// The first eight bytes at a place.
+fn eight_at(old: [u8; 8], at: usize, end: usize, taken: usize, piece: &[u8]) -> [u8; 8]
+    ensures { λ r. ⌜ r ≡ window at 8 end taken old (now (piece .entry)) ⌝ }
+{
+    let mut out = [0u8; 8];
+    window_out(&old, at, end, taken, piece, &mut out);
+    out
+}
+
+// The next step of a walk, where `total` bytes have come and `coming` are the first eight at its place.
+pub fn step_by(walker: Walker, coming: [u8; 8], total: usize) -> Step
+    ensures { λ r. ⌜ r ≡ stepBy walker coming total ⌝ }
+{
+    let order = walker.order;
+    let n = number::minus(number::lesser(walker.end, total), walker.at);
+    let size = field::read_i32(&coming, 0, order);
+    let code = field::read_i32(&coming, 4, order);
+    walker.step_by(n, size, code)
+}
+
+// The walk over all extensions that have come whole with `piece`, which follows `taken` bytes. Its fields are locals here,
+// so that a span is stored in place.
+pub fn walk_on(order: Order, end: usize, walk: Walk, taken: usize, piece: &[u8]) -> Walk
+    requires { ⌜ taken + length (now piece) < 18446744073709551616 ⌝ }
+    ensures { λ r. ⌜ r ≡ walkedOn order end walk taken (now (piece .entry)) ⌝ }
+{
+    let total = taken + piece.len();
+    let old = walk.coming;
+    let mut at = walk.at;
+    let mut count = walk.count;
+    let first = eight_at(old, at, end, taken, piece);
+    let mut coming = first;
+    let mut spans = walk.spans;
+    loop {
+        let walker = Walker {
+            order,
+            end,
+            at,
+            count,
+        };
+        let step = step_by(walker, coming, total);
+        match step {
+            Step::Extension(x, next) => {
+                spans[count] = x;
+                at = next.at;
+                count = next.count;
+                let then = eight_at(coming, at, end, taken, piece);
+                coming = then;
+            }
+            Step::End => {
+                return Walk {
+                    at,
+                    count,
+                    coming,
+                    spans,
+                };
+            }
+            Step::Halt(_) => {
+                return Walk {
+                    at,
+                    count,
+                    coming,
+                    spans,
+                };
+            }
+        }
+    }
+}
