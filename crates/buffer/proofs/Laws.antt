@@ -5,7 +5,7 @@ use mathlib.Core.List.{List, [], _++_, append-assoc, append-nil}
 use Prim.Native.Nat.{ℕ, _+_, _-_, _≤_, _<_}
 use native.Mathlib.Nat.{add-zero, sub-self}
 use native.Mathlib.Omega.{arith}
-use lib.ListN.{length, getD, take, drop, length-take, length-drop, length-append, take-append-drop}
+use lib.ListN.{length, getD, take, drop, length-take, length-drop, length-append, take-append-drop, List·getD-append}
 use lib.Seq.{length-take-le, take-append-le, drop-append-le, take-append-add, drop-append-add, take-at, drop-at}
 use lib.Seq.{take-take, drop-drop, getD-take, getD-drop, sets, sets-eq}
 use Rattle.number.proofs.Lists.{drop-take-add}
@@ -79,6 +79,9 @@ module _ (l : List ℕ) (at : ℕ) (e : List ℕ) where
 
   pub getD-put-before : (i : ℕ) → i < at → at ≤ length l → getD (put l at e) i 0 ≡ getD l i 0
   getD-put-before i h hl = rw (← getD-take at (put l at e) i 0 h, take-put at (omega arith) hl, getD-take at l i 0 h)
+
+  pub getD-put-in : (i : ℕ) → i < length e → at ≤ length l → getD (put l at e) (at + i) 0 ≡ getD e i 0
+  getD-put-in i h hl = rw (← getD-drop at (put l at e) i 0, drop-put-at hl, List·getD-append e (drop (at + length e) l) 0 i h)
 
   pub getD-put-after : (i : ℕ) → at + length e ≤ i → at ≤ length l → getD (put l at e) i 0 ≡ getD l i 0
   getD-put-after i h hl =

@@ -1,10 +1,10 @@
 -- What is kept of a file that comes in pieces, and what a piece does to it. 02-change-requests.md, P1: "a reader that takes pieces of any
 -- length, zero too, keeps no payload or voxel bytes, and answers at the end".
-use Prim.Native.Nat.{ℕ, _+_}
+use Prim.Native.Nat.{ℕ, _+_, _-_}
 use mathlib.Core.Bool.{Bool, cond}
 use mathlib.Core.List.{List, []}
 use lib.Dec.{ltb}
-use lib.ListN.{length, replicate}
+use lib.ListN.{length, take, replicate}
 use Rattle.refusal.specs.declared.Verdict.the-variants.{Accepted, Refused}
 use Rattle.refusal.specs.Table.{refusal}
 use Rattle.field.specs.declared.Order.{Order}
@@ -14,11 +14,11 @@ use Rattle.offset.specs.declared.Offset.the-variants.{Whole, NotWhole, TooLarge
 use Rattle.offset.specs.Offset.{offsetOf}
 use Rattle.extension.specs.Walk.{firstPlace}
 use Rattle.extension.specs.Listing.{spansOf}
+use Rattle.buffer.specs.Put.{put}
 use Rattle.header.specs.declared.Kind.{Kind}
 use Rattle.header.specs.declared.Kind.the-variants.{Single, Pair}
 use Rattle.layout.specs.File.{orderOf, kindOf, hasExtensions}
 use Rattle.piece_walk.specs.declared.Walk.{Walk}
-use Rattle.piece_walk.specs.Window.{window}
 use Rattle.piece_walk.specs.Walking.{walkedOn}
 use Rattle.piece_reader.specs.declared.Pieces.{Pieces}
 use Rattle.piece_reader.specs.declared.Taken.{Taken}
@@ -45,7 +45,7 @@ fresh =
 
 -- the first 352 bytes, with those of a piece that follows n bytes
 unfoldable pub frontWith : List ℕ → ℕ → List ℕ → List ℕ
-frontWith front n piece = cond (ltb n frontLength) (window 0 frontLength frontLength n front piece) front
+frontWith front n piece = put front n (take (frontLength - n) piece)
 
 -- Where the walk over the extensions stops: at a single file's voxel offset, so that it comes to no voxel. A pair's region ends with the
 -- file, which the total bounds. Where rule 8 or 9 refuses the offset, what the walk does is not asked.

@@ -54,8 +54,9 @@ fn front_with(old: [u8; 352], taken: usize, piece: &[u8]) -> [u8; 352]
     if 352 <= taken {
         return old;
     }
-    let mut out = [0u8; 352];
-    piece_walk::window_out(&old, 0, 352, taken, piece, &mut out);
+    let n = number::lesser(352 - taken, piece.len());
+    let mut out = old;
+    buffer::copy_in(&mut out, taken, &piece[..n]);
     out
 }
 

@@ -1,4 +1,5 @@
 mod Passing
-pub mod Windows
+mod Windows
 mod More
+mod Stepping
 pub mod Standing

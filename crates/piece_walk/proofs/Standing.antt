@@ -196,42 +196,44 @@ module _ (order : Order) (end : ℕ) (b piece : List ℕ) where
   abbrev Ahead : ℕ → ℕ → Type 0
   Ahead n at = (x : Span) → found order n at (restOf c end at) ≡ extension x → length b ≤ at + natAbs (x .size)
 
-  one-more : (xs : List Span) (at : ℕ) (x : Span) → length xs < extensionLimit → length b ≤ at + natAbs (x .size)
-      → passedBy end (length b) piece (standing end c xs at) x (past (walkerAt order end c at xs) x)
-      ≡ standing end c (xs ++ (x ∷ [])) (at + natAbs (x .size))
-  one-more xs at x h a =
-      let l : length xs + 1 ≡ length (xs ++ (x ∷ [])) = sym (length-append xs (x ∷ [])) in
-      let w = window-is (at + natAbs (x .size)) 8 end b (bytesAt at 8 (take end c)) piece (λ q. absurd (omega arith)) in
-      λ i. record { at = at + natAbs (x .size); count = l i; coming = w i; spans = spans-more xs x h i }
+  -- the eight bytes that were kept before the piece do not count any more
+  module _ (old : List ℕ) where
+    one-more : (xs : List Span) (at : ℕ) (x : Span) → length xs < extensionLimit → length b ≤ at + natAbs (x .size)
+        → passedBy end old (length b) piece (standing end c xs at) x (past (walkerAt order end c at xs) x)
+        ≡ standing end c (xs ++ (x ∷ [])) (at + natAbs (x .size))
+    one-more xs at x h a =
+        let l : length xs + 1 ≡ length (xs ++ (x ∷ [])) = sym (length-append xs (x ∷ [])) in
+        let w = window-is (at + natAbs (x .size)) end b old piece (λ q. absurd (omega arith)) in
+        λ i. record { at = at + natAbs (x .size); count = l i; coming = w i; spans = spans-more xs x h i }
 
-  goes : (k : ℕ) (xs : List Span) (at : ℕ) → k + length xs ≡ extensionLimit → Ahead (length xs) at
-      → passing order end (length b) piece k (standing end c xs at)
-      ≡ standing end c (xs ++ wholeFrom order end c k at) (placeAfter at (wholeFrom order end c k at))
-  unfolding passing wholeFrom stepOf
-  goes zero xs at h a = rw append-nil
-  goes (suc k) xs at h a = rw same (by (λ ys p g d. goes k ys p g d) (found order (length xs) at (restOf c end at)) refl)
-    where
-      n : extensionLimit - suc k ≡ length xs
-      n = omega arith
+    goes : (k : ℕ) (xs : List Span) (at : ℕ) → k + length xs ≡ extensionLimit → Ahead (length xs) at
+        → passing order end old (length b) piece k (standing end c xs at)
+        ≡ standing end c (xs ++ wholeFrom order end c k at) (placeAfter at (wholeFrom order end c k at))
+    unfolding passing wholeFrom stepOf
+    goes zero xs at h a = rw append-nil
+    goes (suc k) xs at h a = rw same (by (λ ys p g d. goes k ys p g d) (found order (length xs) at (restOf c end at)) refl)
+      where
+        n : extensionLimit - suc k ≡ length xs
+        n = omega arith
 
-      same : stepBy (walkerAt order end c at xs) (bytesAt at 8 (take end c)) (length b + length piece) ≡ stepOf c (walkerAt order end c at xs)
-      same = rw (← length-append b piece) (step-same (walkerAt order end c at xs) c)
+        same : stepBy (walkerAt order end c at xs) (bytesAt at 8 (take end c)) (length b + length piece) ≡ stepOf c (walkerAt order end c at xs)
+        same = rw (← length-append b piece) (step-same (walkerAt order end c at xs) c)
 
-      by : ((ys : List Span) (p : ℕ) → k + length ys ≡ extensionLimit → Ahead (length ys) p
-          → passing order end (length b) piece k (standing end c ys p)
-          ≡ standing end c (ys ++ wholeFrom order end c k p) (placeAfter p (wholeFrom order end c k p)))
-          → (f : Found) → found order (length xs) at (restOf c end at) ≡ f
-          → ifExtension (stepFrom (walkerAt order end c at xs) f) (standing end c xs at)
-          (λ x next. passing order end (length b) piece k (passedBy end (length b) piece (standing end c xs at) x next))
-          ≡ standing end c (xs ++ onFound order end c k at (found order (extensionLimit - suc k) at (restOf c end at)))
-          (placeAfter at (onFound order end c k at (found order (extensionLimit - suc k) at (restOf c end at))))
-      by ih (extension x) d =
-          let p = at + natAbs (x .size) in
-          let l : length (xs ++ (x ∷ [])) ≡ length xs + 1 = length-append xs (x ∷ []) in
-          rw (n, d, one-more xs at x (taken order (length xs) at (restOf c end at) x d .more) (a x d), ← append-snoc xs x (wholeFrom order end c k p))
-          (ih (xs ++ (x ∷ [])) p (omega arith) (λ y e. omega (arith, a x d)))
-      by ih ended d = rw (n, d, append-nil)
-      by ih (refused r) d = rw (n, d, append-nil)
+        by : ((ys : List Span) (p : ℕ) → k + length ys ≡ extensionLimit → Ahead (length ys) p
+            → passing order end old (length b) piece k (standing end c ys p)
+            ≡ standing end c (ys ++ wholeFrom order end c k p) (placeAfter p (wholeFrom order end c k p)))
+            → (f : Found) → found order (length xs) at (restOf c end at) ≡ f
+            → ifExtension (stepFrom (walkerAt order end c at xs) f) (standing end c xs at)
+            (λ x next. passing order end old (length b) piece k (passedBy end old (length b) piece (standing end c xs at) x next))
+            ≡ standing end c (xs ++ onFound order end c k at (found order (extensionLimit - suc k) at (restOf c end at)))
+            (placeAfter at (onFound order end c k at (found order (extensionLimit - suc k) at (restOf c end at))))
+        by ih (extension x) d =
+            let p = at + natAbs (x .size) in
+            let l : length (xs ++ (x ∷ [])) ≡ length xs + 1 = length-append xs (x ∷ []) in
+            rw (n, d, one-more xs at x (taken order (length xs) at (restOf c end at) x d .more) (a x d), ← append-snoc xs x (wholeFrom order end c k p))
+            (ih (xs ++ (x ∷ [])) p (omega arith) (λ y e. omega (arith, a x d)))
+        by ih ended d = rw (n, d, append-nil)
+        by ih (refused r) d = rw (n, d, append-nil)
 
   abbrev before : List Span
   before = wholeFrom order end b extensionLimit firstPlace
@@ -257,9 +259,9 @@ module _ (order : Order) (end : ℕ) (b piece : List ℕ) where
       let j = extensionLimit - length before in
       let ys = wholeFrom order end c j at-place in
       ap
-      (λ l. passing order end (length b) piece j (record { at = at-place; count = length before; coming = l; spans = spansOf before }))
-      (window-is at-place 8 end b m piece known)
-      ∙ goes j before at-place (omega (arith, few-whole order end b)) ahead
+      (λ l. passing order end m (length b) piece j (record { at = at-place; count = length before; coming = l; spans = spansOf before }))
+      (window-is at-place end b m piece known)
+      ∙ goes m j before at-place (omega (arith, few-whole order end b)) ahead
       ∙ ap (standing end c (before ++ ys)) (sym (place-append firstPlace before ys))
       ∙ ap (λ zs. standing end c zs (placeAfter firstPlace zs)) (sym (whole-more extensionLimit firstPlace))
 

@@ -24,13 +24,13 @@ stepBy w coming total =
 abbrev pub walkerOf : Order → ℕ → Walk → Walker
 walkerOf order end g = record { order = order; end = end; at = g .at; count = g .count }
 
--- the walk past an extension; n bytes came before the piece
-abbrev pub passedBy : ℕ → ℕ → List ℕ → Walk → Span → Walker → Walk
-passedBy end n piece g x next =
+-- the walk past an extension. A piece follows n bytes, of which `old` are the eight that were kept
+abbrev pub passedBy : ℕ → List ℕ → ℕ → List ℕ → Walk → Span → Walker → Walk
+passedBy end old n piece g x next =
     record {
       at = next .at;
       count = next .count;
-      coming = window (next .at) 8 end n (g .coming) piece;
+      coming = window (next .at) end n old piece;
       spans = set (g .spans) (g .count) x;
     }
 
@@ -40,11 +40,11 @@ ifExtension End g f = g
 ifExtension (Halt r) g f = g
 
 -- the walk over at most k extensions more
-unfoldable pub passing : Order → ℕ → ℕ → List ℕ → ℕ → Walk → Walk
-passing order end n piece zero g = g
-passing order end n piece (suc k) g =
+unfoldable pub passing : Order → ℕ → List ℕ → ℕ → List ℕ → ℕ → Walk → Walk
+passing order end old n piece zero g = g
+passing order end old n piece (suc k) g =
     ifExtension (stepBy (walkerOf order end g) (g .coming) (n + length piece)) g
-    (λ x next. passing order end n piece k (passedBy end n piece g x next))
+    (λ x next. passing order end old n piece k (passedBy end old n piece g x next))
 
 -- the walk where it stands, with the piece's bytes of the extension that is coming
 abbrev pub resumed : ℕ → Walk → ℕ → List ℕ → Walk
@@ -52,10 +52,10 @@ resumed end g n piece =
     record {
       at = g .at;
       count = g .count;
-      coming = window (g .at) 8 end n (g .coming) piece;
+      coming = window (g .at) end n (g .coming) piece;
       spans = g .spans;
     }
 
 -- and on over all that has come whole
 unfoldable pub walkedOn : Order → ℕ → Walk → ℕ → List ℕ → Walk
-walkedOn order end g n piece = passing order end n piece (extensionLimit - g .count) (resumed end g n piece)
+walkedOn order end g n piece = passing order end (g .coming) n piece (extensionLimit - g .count) (resumed end g n piece)

@@ -23,37 +23,31 @@ pub struct Walk {
 }
 
 // A byte of a window: of those before `taken` the old window has it, of the others the piece.
-fn window_byte(old: &[u8], at: usize, end: usize, taken: usize, piece: &[u8], i: usize) -> u8
-    ensures { λ r. ⌜ r ≡ windowByte at end taken (now (old .entry)) (now (piece .entry)) i ⌝ }
+fn window_byte(old: [u8; 8], at: usize, end: usize, taken: usize, piece: &[u8], i: usize) -> u8
+    requires { ⌜ i < 8 ⌝ }
+    ensures { λ r. ⌜ r ≡ windowByte at end taken old (now (piece .entry)) i ⌝ }
 {
     if number::minus(end, at) <= i {
         return 0;
     }
     let place = at + i;
     if place < taken {
-        field::byte_at(old, i)
+        old[i]
     } else {
         field::byte_at(piece, place - taken)
     }
 }
 
-// The bytes from `at` on, as many as `out` takes, once `piece` has come after `taken` bytes. From `end` on they are 0.
-pub fn window_out(old: &[u8], at: usize, end: usize, taken: usize, piece: &[u8], out: &mut [u8])
-    ensures { λ _. ⌜ now (out .exit) ≡ window at (length (now (out .entry))) end taken (now (old .entry)) (now (piece .entry)) ⌝ }
+// The eight bytes from `at` on, once `piece` has come after `taken` bytes. From `end` on they are 0.
+fn window_at(old: [u8; 8], at: usize, end: usize, taken: usize, piece: &[u8]) -> [u8; 8]
+    ensures { λ r. ⌜ r ≡ window at end taken old (now (piece .entry)) ⌝ }
 {
+    let mut out = [0u8; 8];
     let mut i = 0;
-    while i < out.len() {
+    while i < 8 {
         out[i] = window_byte(old, at, end, taken, piece, i);
         i += 1;
     }
-}
-
-// The first eight bytes at a place.
-fn eight_at(old: [u8; 8], at: usize, end: usize, taken: usize, piece: &[u8]) -> [u8; 8]
-    ensures { λ r. ⌜ r ≡ window at 8 end taken old (now (piece .entry)) ⌝ }
-{
-    let mut out = [0u8; 8];
-    window_out(&old, at, end, taken, piece, &mut out);
     out
 }
 
@@ -68,18 +62,39 @@ pub fn step_by(walker: Walker, coming: [u8; 8], total: usize) -> Step
     walker.step_by(n, size, code)
 }
 
+// The same with a piece, where `old` are the eight bytes that were kept before it. Those that the piece has are read
+// where they stand, and those that break the size rule by their number are not read.
+fn step_in(walker: Walker, old: [u8; 8], taken: usize, piece: &[u8]) -> Step
+    requires { ⌜ taken + length (now piece) < 18446744073709551616 ⌝ }
+    ensures { λ r.
+        ⌜ r ≡ stepBy walker (window (walker .at) (walker .end) taken old (now (piece .entry)))
+        (taken + length (now (piece .entry))) ⌝ }
+{
+    let order = walker.order;
+    let at = walker.at;
+    let total = taken + piece.len();
+    let n = number::minus(number::lesser(walker.end, total), at);
+    if n < 16 {
+        return walker.step_by(n, 0, 0);
+    }
+    if at < taken {
+        return step_by(walker, window_at(old, at, walker.end, taken, piece), total);
+    }
+    let from = at - taken;
+    let size = field::read_i32(piece, from, order);
+    let code = field::read_i32(piece, from + 4, order);
+    walker.step_by(n, size, code)
+}
+
 // The walk over all extensions that have come whole with `piece`, which follows `taken` bytes. Its fields are locals here,
 // so that a span is stored in place.
 pub fn walk_on(order: Order, end: usize, walk: Walk, taken: usize, piece: &[u8]) -> Walk
     requires { ⌜ taken + length (now piece) < 18446744073709551616 ⌝ }
     ensures { λ r. ⌜ r ≡ walkedOn order end walk taken (now (piece .entry)) ⌝ }
 {
-    let total = taken + piece.len();
     let old = walk.coming;
     let mut at = walk.at;
     let mut count = walk.count;
-    let first = eight_at(old, at, end, taken, piece);
-    let mut coming = first;
     let mut spans = walk.spans;
     loop {
         let walker = Walker {
@@ -88,20 +103,18 @@ pub fn walk_on(order: Order, end: usize, walk: Walk, taken: usize, piece: &[u8])
             at,
             count,
         };
-        let step = step_by(walker, coming, total);
+        let step = step_in(walker, old, taken, piece);
         match step {
             Step::Extension(x, next) => {
                 spans[count] = x;
                 at = next.at;
                 count = next.count;
-                let then = eight_at(coming, at, end, taken, piece);
-                coming = then;
             }
             Step::End => {
                 return Walk {
                     at,
                     count,
-                    coming,
+                    coming: window_at(old, at, end, taken, piece),
                     spans,
                 };
             }
@@ -109,7 +122,7 @@ pub fn walk_on(order: Order, end: usize, walk: Walk, taken: usize, piece: &[u8])
                 return Walk {
                     at,
                     count,
-                    coming,
+                    coming: window_at(old, at, end, taken, piece),
                     spans,
                 };
             }
