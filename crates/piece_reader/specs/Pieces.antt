@@ -1,9 +1,9 @@
 -- What is kept of a file that comes in pieces, and what a piece does to it. 02-change-requests.md, P1: "a reader that takes pieces of any
 -- length, zero too, keeps no payload or voxel bytes, and answers at the end".
 use Prim.Native.Nat.{ℕ, _+_, _-_}
-use mathlib.Core.Bool.{Bool, cond}
+use mathlib.Core.Bool.{Bool, cond, _&&_, _||_}
 use mathlib.Core.List.{List, []}
-use lib.Dec.{ltb}
+use lib.Dec.{ltb, leb}
 use lib.ListN.{length, take, replicate}
 use Rattle.refusal.specs.declared.Verdict.the-variants.{Accepted, Refused}
 use Rattle.refusal.specs.Table.{refusal}
@@ -63,13 +63,26 @@ endIn order front = cond (hasExtensions front) (endBy (kindOf front) (offsetOf (
 unfoldable pub walkWith : List ℕ → Walk → ℕ → List ℕ → Walk
 walkWith front g n piece = walkedOn (orderOf front) (endIn (orderOf front) front) g n piece
 
-abbrev pub takenWith : Pieces → List ℕ → Pieces
-takenWith s piece =
+-- A piece of payload or voxels alone: the first 352 bytes have come, and it begins behind the region of the extensions, or ends before
+-- the next one begins.
+abbrev pub isSkipped : List ℕ → ℕ → ℕ → ℕ → Bool
+isSkipped front at n total = leb frontLength n && (leb (endIn (orderOf front) front) n || leb total at)
+
+-- of such a piece only the number of its bytes counts
+abbrev pub skippedBy : Pieces → List ℕ → Pieces
+skippedBy s piece = record { taken = s .taken + length piece; front = s .front; walk = s .walk }
+
+unfoldable pub readOn : Pieces → List ℕ → Pieces
+readOn s piece =
     record {
       taken = s .taken + length piece;
       front = frontWith (s .front) (s .taken) piece;
       walk = walkWith (frontWith (s .front) (s .taken) piece) (s .walk) (s .taken) piece;
     }
+
+unfoldable pub takenWith : Pieces → List ℕ → Pieces
+takenWith s piece =
+    cond (isSkipped (s .front) (s .walk .at) (s .taken) (s .taken + length piece)) (skippedBy s piece) (readOn s piece)
 
 -- "25 for a piece that would pass that total, before anything else; the reader's state stays. It joins the table with place 0"
 unfoldable pub takenOf : Pieces → List ℕ → Taken

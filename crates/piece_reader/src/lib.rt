@@ -4,9 +4,9 @@
 ghost use mathlib.Core.Path.{_≡_};
 ghost use Prim.Native.Nat.{_+_, _≤_};
 ghost use lib.ListN.{length};
-ghost use Rattle.layout.specs.File.{orderOf, checkedIn};
-ghost use Rattle.piece_reader.specs.Pieces.{passesTotal, frontWith, endBy, endIn, walkWith, fresh, takenOf};
-ghost use Rattle.piece_reader.specs.Answer.{listedBy, answerBy, answerOf};
+ghost use Rattle.layout.specs.File.{orderOf};
+ghost use Rattle.piece_reader.specs.Pieces.{passesTotal, frontWith, endBy, endIn, isSkipped, readOn, fresh, takenOf};
+ghost use Rattle.piece_reader.specs.Answer.{listedBy, answerOf};
 use extension::LIMIT;
 use extension::Step;
 use extension::Walker;
@@ -99,14 +99,35 @@ fn end_in(front: &[u8], order: Order) -> usize
     )
 }
 
-// The walk with a piece, by the first 352 bytes as they are known with it.
-fn walk_with(front: &[u8], walk: Walk, taken: usize, piece: &[u8]) -> Walk
-    requires { ⌜ (348 ≤ length (now front)) × (taken + length (now piece) ≤ 2199023255552) ⌝ }
-    ensures { λ r. ⌜ r ≡ walkWith (now (front .entry)) walk taken (now (piece .entry)) ⌝ }
+// Whether a piece has payload or voxels alone: the first 352 bytes have come, and it begins behind the region of the
+// extensions or ends before the next one.
+fn is_skipped(front: &[u8], at: usize, taken: usize, total: usize) -> bool
+    requires { ⌜ 348 ≤ length (now front) ⌝ }
+    ensures { λ r. ⌜ r ≡ isSkipped (now (front .entry)) at taken total ⌝ }
 {
-    let order = order_of(front);
-    let end = end_in(front, order);
-    piece_walk::walk_on(order, end, walk, taken, piece)
+    if taken < 352 {
+        return false;
+    }
+    (end_in(front, order_of(front)) <= taken) | (total <= at)
+}
+
+// The state with a piece that is not skipped.
+fn read_on(pieces: Pieces, piece: &[u8]) -> Pieces
+    requires { ⌜ pieces .taken + length (now piece) ≤ 2199023255552 ⌝ }
+    ensures { λ r. ⌜ r ≡ readOn pieces (now (piece .entry)) ⌝ }
+{
+    let taken = pieces.taken;
+    let old = pieces.front;
+    let front = front_with(old, taken, piece);
+    let order = order_of(&front);
+    let end = end_in(&front, order);
+    let before = pieces.walk;
+    let walk = piece_walk::walk_on(order, end, before, taken, piece);
+    Pieces {
+        taken: taken + piece.len(),
+        front,
+        walk,
+    }
 }
 
 // Rules 13 to 15 of what stands where the walk has come to, now that the length is known; where they pass, the record.
@@ -132,17 +153,6 @@ fn listed(front: &[u8], layout: Layout, taken: usize, walk: Walk) -> Reading
         Step::Halt(r) => reader::refused(r),
         Step::End => reader::accepted(front, layout, count, spans),
         Step::Extension(_, _) => reader::accepted(front, layout, count, spans),
-    }
-}
-
-// Rules 1 to 12 by the first 352 bytes and the length, then the others.
-fn answer_in(front: [u8; 352], taken: usize, walk: Walk) -> Reading
-    ensures { λ r. ⌜ r ≡ answerBy (checkedIn front taken) front taken walk ⌝ }
-{
-    let checked = layout::check_in(&front, taken);
-    match checked {
-        Checked::Breaks(r) => reader::refused(r),
-        Checked::Fits(layout) => listed(&front, layout, taken, walk),
     }
 }
 
@@ -177,18 +187,22 @@ impl Pieces {
                 pieces: self,
             };
         }
-        let old = self.front;
-        let front = front_with(old, taken, piece);
-        let before = self.walk;
-        let walk = walk_with(&front, before, taken, piece);
+        let front = self.front;
         let total = taken + piece.len();
+        if is_skipped(&front, self.walk.at, taken, total) {
+            let walk = self.walk;
+            return Taken {
+                verdict: Verdict::Accepted,
+                pieces: Pieces {
+                    taken: total,
+                    front,
+                    walk,
+                },
+            };
+        }
         Taken {
             verdict: Verdict::Accepted,
-            pieces: Pieces {
-                taken: total,
-                front,
-                walk,
-            },
+            pieces: read_on(self, piece),
         }
     }
 
@@ -197,7 +211,13 @@ impl Pieces {
         ensures { λ r. ⌜ r ≡ answerOf self ⌝ }
     {
         let front = self.front;
-        let walk = self.walk;
-        answer_in(front, self.taken, walk)
+        let checked = layout::check_in(&front, self.taken);
+        match checked {
+            Checked::Breaks(r) => reader::refused(r),
+            Checked::Fits(layout) => {
+                let walk = self.walk;
+                listed(&front, layout, self.taken, walk)
+            }
+        }
     }
 }

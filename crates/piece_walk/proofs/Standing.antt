@@ -8,14 +8,14 @@ use native.Mathlib.Omega.{arith}
 use borrow.Author.Tests.{ltb-true, ltb-false}
 use lib.Dec.{ltb}
 use lib.IntN.{natAbs}
-use lib.ListN.{length, getD, set, take, length-append}
-use lib.Seq.{append-snoc, getD-drop}
+use lib.ListN.{length, getD, take, drop, length-take, length-append, List·getD-eq-default}
+use lib.Seq.{append-snoc, getD-drop, take-append-le}
 use mir.Syntax.{w32}
 use mir.Val.{toZ}
 use Rattle.refusal.specs.declared.Refusal.{Refusal}
 use Rattle.field.specs.declared.Order.{Order}
 use Rattle.field.specs.Numbers.{bytesAt, i32At}
-use Rattle.field.proofs.Tabulate.{tabulate-get}
+use Rattle.field.proofs.Tabulate.{tabulate-get, tabulate-same}
 use Rattle.extension.specs.declared.Span.{Span}
 use Rattle.extension.specs.declared.Walker.{Walker}
 use Rattle.extension.specs.declared.Step.the-variants.{Extension, End, Halt}
@@ -62,17 +62,17 @@ place-append : (at : ℕ) (xs ys : List Span) → placeAfter at (xs ++ ys) ≡ p
 place-append at [] ys = refl
 place-append at (x ∷ xs) ys = place-append (at + natAbs (x .size)) xs ys
 
--- bytes that end at 352 or before hold no extension
-none-whole : (order : Order) (end : ℕ) (b : List ℕ) (k : ℕ) → length b ≤ firstPlace → wholeFrom order end b k firstPlace ≡ []
+-- bytes that end at a place hold no extension there
+none-whole : (order : Order) (end : ℕ) (b : List ℕ) (k at : ℕ) → length b ≤ at → wholeFrom order end b k at ≡ []
 unfolding wholeFrom
-none-whole order end b zero h = refl
-none-whole order end b (suc k) h = by (found order (extensionLimit - suc k) firstPlace (restOf b end firstPlace)) refl
+none-whole order end b zero at h = refl
+none-whole order end b (suc k) at h = by (found order (extensionLimit - suc k) at (restOf b end at)) refl
   where
-    by : (f : Found) → found order (extensionLimit - suc k) firstPlace (restOf b end firstPlace) ≡ f
-        → ifFound f (λ x. x ∷ wholeFrom order end b k (firstPlace + natAbs (x .size))) ≡ []
+    by : (f : Found) → found order (extensionLimit - suc k) at (restOf b end at) ≡ f
+        → ifFound f (λ x. x ∷ wholeFrom order end b k (at + natAbs (x .size))) ≡ []
     by (extension x) e =
-        let r = taken order (extensionLimit - suc k) firstPlace (restOf b end firstPlace) x e .size in
-        let l = length-rest b end firstPlace in
+        let r = taken order (extensionLimit - suc k) at (restOf b end at) x e .size in
+        let l = length-rest b end at in
         absurd (omega arith)
     by ended e = refl
     by (refused r) e = refl
@@ -271,16 +271,59 @@ nowhere end b = record { at = firstPlace; count = 0; coming = bytesAt firstPlace
 
 pub walk-nowhere : (order : Order) (end : ℕ) (b : List ℕ) → length b ≤ firstPlace → walkOf order end b ≡ nowhere end b
 unfolding walkOf
-walk-nowhere order end b h = rw (none-whole order end b extensionLimit h)
+walk-nowhere order end b h = rw (none-whole order end b extensionLimit firstPlace h)
 
 module _ (order : Order) (end : ℕ) (b piece : List ℕ) where
   -- it goes on by any order and end
   pub walked-first : (e : ℕ) → length b ≤ firstPlace → walkedOn order end (nowhere e b) (length b) piece ≡ walkOf order end (b ++ piece)
   walked-first e h =
       let m = bytesAt firstPlace 8 (take e b) in
-      rw (none-whole order end b extensionLimit h) at (walked-on order end b piece m)
+      rw (none-whole order end b extensionLimit firstPlace h) at (walked-on order end b piece m)
       (λ l. absurd (omega arith))
 
   pub walked-later : walkedOn order end (walkOf order end b) (length b) piece ≡ walkOf order end (b ++ piece)
   unfolding walkOf
   walked-later = walked-on order end b piece (bytesAt (place order end b) 8 (take end b)) (λ _. refl)
+
+-- ---- A piece that the walk does not see
+
+-- only the region's bytes count
+whole-same : (order : Order) (end : ℕ) (b c : List ℕ) → take end b ≡ take end c → (k at : ℕ) → wholeFrom order end b k at ≡ wholeFrom order end c k at
+unfolding wholeFrom
+whole-same order end b c e zero at = refl
+whole-same order end b c e (suc k) at =
+    λ i. ifFound (found order (extensionLimit - suc k) at (drop at (e i)))
+    (λ x. x ∷ whole-same order end b c e k (at + natAbs (x .size)) i)
+
+module _ (order : Order) (end : ℕ) (b piece : List ℕ) where
+  -- behind both there are zeros
+  nothing : (p : ℕ) → length (b ++ piece) ≤ p → (i : ℕ) → getD (take end b) (p + i) 0 ≡ getD (take end (b ++ piece)) (p + i) 0
+  nothing p h i =
+      List·getD-eq-default (take end b) 0 (simp length-take (omega (arith, length-append b piece)))
+      ∙ sym (List·getD-eq-default (take end (b ++ piece)) 0 (simp length-take (omega arith)))
+
+  pub walk-behind : end ≤ length b → walkOf order end b ≡ walkOf order end (b ++ piece)
+  unfolding walkOf
+  walk-behind h =
+      let e : take end b ≡ take end (b ++ piece) = sym (take-append-le end b piece h) in
+      let w = whole-same order end b (b ++ piece) e extensionLimit firstPlace in
+      λ i.
+      record {
+        at = placeAfter firstPlace (w i);
+        count = length (w i);
+        coming = bytesAt (placeAfter firstPlace (w i)) 8 (e i);
+        spans = spansOf (w i);
+      }
+
+  pub walk-before : length (b ++ piece) ≤ walkOf order end b .at → walkOf order end b ≡ walkOf order end (b ++ piece)
+  unfolding walkOf
+  walk-before h =
+      let xs = wholeFrom order end b extensionLimit firstPlace in
+      let p = placeAfter firstPlace xs in
+      let m = tabulate-same (λ i. getD (take end b) (p + i) 0) (λ i. getD (take end (b ++ piece)) (p + i) 0) 8 (λ i below. nothing p h i) in
+      (λ i. record { at = p; count = length xs; coming = m i; spans = spansOf xs })
+      ∙ ap (λ zs. standing end (b ++ piece) zs (placeAfter firstPlace zs))
+      (sym
+      (whole-more order end b piece extensionLimit firstPlace
+      ∙ ap (λ ys. xs ++ ys) (none-whole order end (b ++ piece) (extensionLimit - length xs) p h)
+      ∙ append-nil xs))
