@@ -9,11 +9,12 @@ use borrow.Author.Tests.{ltb-false, lt-ltb, le-ltb}
 use lib.ListN.{length, length-append}
 use Rattle.refusal.specs.declared.Verdict.the-variants.{Accepted, Refused}
 use Rattle.refusal.specs.Table.{refusal}
+use Rattle.refusal.proofs.Rows.{refused-never}
 use Rattle.field.specs.Numbers.{joined}
 use Rattle.reader.specs.Reading.{readingOf}
 use Rattle.piece_reader.specs.declared.Pieces.{Pieces}
 use Rattle.piece_reader.specs.declared.Taken.{Taken}
-use Rattle.piece_reader.specs.Pieces.{totalLimit, passesTotal, fresh, takenWith, takenOf}
+use Rattle.piece_reader.specs.Pieces.{totalLimit, passesTotal, fresh, isSkipped, skippedBy, readOn, takenWith, takenOf}
 use Rattle.piece_reader.specs.Answer.{answerOf}
 use Rattle.piece_reader.specs.Feeding.{afterAll, takenFrom}
 use Rattle.piece_reader.specs.Kept.{keptOf}
@@ -29,6 +30,30 @@ module _ (s : Pieces) (piece : List ℕ) where
   pub within-total : s .taken + length piece ≤ totalLimit → _≡_ {A = Taken} (takenOf s piece) (record { verdict = Accepted; pieces = takenWith s piece })
   unfolding takenOf
   within-total h = rw (le-ltb totalLimit (s .taken + length piece) h)
+
+  -- a piece that is taken is within the total, and all its bytes count
+  with-taken : takenWith s piece .taken ≡ s .taken + length piece
+  unfolding takenWith readOn
+  with-taken = by (isSkipped (s .front) (s .walk .at) (s .taken) (s .taken + length piece))
+    where
+      by : (t : Bool) → cond t (skippedBy s piece) (readOn s piece) .taken ≡ s .taken + length piece
+      by true = refl
+      by false = refl
+
+  pub accepted-taken : takenOf s piece .verdict ≡ Accepted
+      → (s .taken + length piece ≤ totalLimit) × (takenOf s piece .pieces .taken ≡ s .taken + length piece)
+  unfolding takenOf
+  accepted-taken e = by (passesTotal (s .taken) (length piece)) refl e
+    where
+      refused : Taken
+      refused = record { verdict = Refused (refusal 25 0); pieces = s }
+
+      by : (t : Bool) → passesTotal (s .taken) (length piece) ≡ t
+          → cond t refused (record { verdict = Accepted; pieces = takenWith s piece }) .verdict ≡ Accepted
+          → (s .taken + length piece ≤ totalLimit)
+          × (cond t refused (record { verdict = Accepted; pieces = takenWith s piece }) .pieces .taken ≡ s .taken + length piece)
+      by true d q = refused-never q
+      by false d q = (ltb-false totalLimit (s .taken + length piece) d, with-taken)
 
 -- one piece more than b, refused and not
 module _ (b p : List ℕ) where

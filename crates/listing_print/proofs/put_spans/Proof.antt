@@ -2,8 +2,8 @@
 use Prim.Native.Nat.{_-_}
 use borrow.Author.Needs.{needs}
 use Rattle.extension.specs.Walk.{extensionLimit}
-use Rattle.nifti_list.proofs.put_spans.Statement.{statement}
-use Rattle.nifti_list.proofs.put_spans.Tie as tie
+use Rattle.listing_print.proofs.put_spans.Statement.{statement}
+use Rattle.listing_print.proofs.put_spans.Tie as tie
 
 abbrev Inv-loop : tie.InvT-loop
 Inv-loop count spans i₀ i = Unit {0}

@@ -1,8 +1,8 @@
 -- `put_axes` is safe and ends: the measure is what is left of the axes. Nothing has to hold from turn to turn.
 use Prim.Native.Nat.{_-_}
 use borrow.Author.Needs.{needs}
-use Rattle.nifti_list.proofs.put_axes.Statement.{statement}
-use Rattle.nifti_list.proofs.put_axes.Tie as tie
+use Rattle.listing_print.proofs.put_axes.Statement.{statement}
+use Rattle.listing_print.proofs.put_axes.Tie as tie
 
 abbrev Inv-loop : tie.InvT-loop
 Inv-loop dim n i₀ i = Unit {0}
