@@ -18,9 +18,10 @@
  *   - vestumbral_slice_at and vestumbral_position_of compute in binary32 and are called in the default floating-point state: round
  *     to nearest, no exception trapped, neither flush-to-zero nor denormals-are-zero (a program linked with -ffast-math starts with
  *     both). In another state a time or a position may be another number, and so may what hangs on it: a slice's state and refusal
- *     23. Read, extension_at, voxel, swap and the edits do not depend on that state.
+ *     23. Read, extension_at, voxel, swap, the edits and the calls for pieces do not depend on that state.
  *
- * The refusals. They are tried in the order of their numbers, but 24 first. At each extension 15 is tried, then 13, then 14.
+ * The refusals. They are tried in the order of their numbers, but 24 and 25 before anything else by the calls that give them. At
+ * each extension 15 is tried, then 13, then 14.
  *
  *   No  given when                                                                              place
  *    1  fewer than 348 bytes                                                                    0
@@ -50,6 +51,7 @@
  *   22  the result is longer than the buffer                                                    0
  *   23  no position                                                                             0
  *   24  the stated file length is above the buffer's length                                     0
+ *   25  a piece would make the file longer than 2199023255552 bytes                             0
  *
  * The extension region begins at 352. It ends at vox_offset in a single file and at the file's end in a pair's header file.
  */
@@ -102,6 +104,27 @@ typedef struct {
     uint64_t refusal, place;
     float x, y, z;
 } vestumbral_position;
+
+/*
+ * The state of reading a file in pieces, whatever the file's length. It is a value: copy it, keep it, hand it on. It has no payload
+ * and no voxel byte. Its members are the library's own; they are declared so that C knows the size, 1408 bytes.
+ */
+typedef struct {
+    uint64_t taken;       /* bytes so far */
+    uint8_t  front[352];  /* the first 352 of them */
+    uint64_t at, count;   /* where the next extension begins, and how many came whole */
+    uint8_t  coming[8];   /* its first eight bytes, as far as they have come */
+    struct {
+        uint64_t start;
+        int32_t  size, code;
+    } spans[64];          /* the extensions that came whole */
+} vestumbral_pieces;
+
+/* The answer of taking a piece. On a refusal `pieces` is the state that was handed in. */
+typedef struct {
+    uint64_t refusal, place;
+    vestumbral_pieces pieces;
+} vestumbral_taken;
 
 /* What the file is. Refusals 1..15. */
 vestumbral_file vestumbral_read(const uint8_t *file, size_t file_len);
@@ -157,6 +180,25 @@ vestumbral_reply vestumbral_replace(uint8_t *buffer, size_t buffer_len, uint64_t
 
 /* Takes extension `number` out. Where none is left the extender becomes zero and the region ends at 352. 18. */
 vestumbral_reply vestumbral_remove(uint8_t *buffer, size_t buffer_len, uint64_t file_len, uint64_t number);
+
+/*
+ * A file that comes in pieces: start, take each piece as it comes, ask at the end. However the file is cut, the answer is that of
+ * the whole-file call on the joined bytes. Asked before the end it is that of the bytes so far, and the state may be fed on. A
+ * refused piece is not taken at all; a shorter one may be taken afterwards. All this is said of states that come from a start by
+ * taking pieces; any other state gets an answer too, but which one is not said.
+ */
+
+/* The state in which no byte has been taken. */
+vestumbral_pieces vestumbral_pieces_start(void);
+
+/* Takes a piece of any length, 0 too, up to 2199023255552 bytes in all. 25. */
+vestumbral_taken vestumbral_pieces_take(vestumbral_pieces pieces, const uint8_t *piece, size_t piece_len);
+
+/* vestumbral_read of the joined bytes. Refusals 1..15. */
+vestumbral_file vestumbral_pieces_file(vestumbral_pieces pieces);
+
+/* vestumbral_extension_at of the joined bytes. Refusals 1..15, then 18. */
+vestumbral_extension vestumbral_pieces_extension_at(vestumbral_pieces pieces, uint64_t number);
 
 #ifdef __cplusplus
 }
