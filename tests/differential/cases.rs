@@ -2,13 +2,17 @@
 //! Everything follows from the seed and the case's number.
 
 use crate::files::{extension, Header, EXTENSIONS, NO_EXTENSIONS, OFFSET_352};
+use crate::library::STATE_WORDS;
 use crate::memory::Where;
-use crate::rules::{self, Edit, Known, Order, DATATYPES, REGION, REGION_LIMIT};
+use crate::rules::{self, Edit, Known, Order, DATATYPES, REGION, REGION_LIMIT, TOTAL};
+use std::fmt;
 
 /// The most bytes that a lent buffer has: a region that ends at 2^27, an image behind it and some.
 pub const LARGEST: usize = REGION_LIMIT as usize + (1 << 16);
 /// Zero bytes to lend: a pair's longest image file and some.
 pub const ZEROS: usize = (rules::IMAGE_LIMIT + REGION_LIMIT + 4096) as usize;
+/// A file of so many bytes is longer than its pieces may come to.
+pub const TALLEST: usize = TOTAL as usize + 4096;
 /// Bytes to lend that may not be read.
 pub const CLOSED: usize = 1 << 20;
 
@@ -73,6 +77,35 @@ pub enum Other {
     Closed(usize),
 }
 
+/// A piece of the file: its length, where it lies, and whether answers are asked for after it.
+#[derive(Clone, Copy, PartialEq)]
+pub struct Piece {
+    pub length: usize,
+    pub at: Where,
+    pub asked: bool,
+}
+
+impl fmt::Debug for Piece {
+    fn fmt(&self, f: &mut fmt::Formatter) -> fmt::Result {
+        write!(f, "{} {:?}{}", self.length, self.at, if self.asked { " asked" } else { "" })
+    }
+}
+
+/// How the file is fed in pieces beside the call.
+#[derive(Clone, PartialEq, Debug)]
+pub enum Feeding {
+    Not,
+    /// In these pieces. Then states that come from no start are fed and asked: those on the way, with these words changed.
+    Pieces {
+        pieces: Vec<Piece>,
+        words: Vec<(usize, u64)>,
+    },
+    /// Byte by byte, and in two pieces cut at every place.
+    EveryCut,
+    /// The file and zeros after it, to the most bytes that pieces come to and beyond.
+    ToTotal,
+}
+
 /// One call with all that it is given. `main` is the file, or an edit's whole buffer.
 #[derive(Clone)]
 pub struct Case {
@@ -81,6 +114,7 @@ pub struct Case {
     pub other: Other,
     pub main_at: Where,
     pub other_at: Where,
+    pub feeding: Feeding,
 }
 
 /// Dims whose image is at, just above or far above the limit, or passes 2^32 or 2^64.
@@ -450,6 +484,65 @@ fn place(random: &mut Random, length: usize) -> Where {
     }
 }
 
+/// Places beside which a piece may end: the header's end, the region's, the image's, and the first and the ninth byte of each
+/// extension.
+pub fn borders(file: &[u8]) -> Vec<usize> {
+    let mut borders = vec![348, REGION as usize];
+    if let Ok((known, _)) = rules::walked(file) {
+        borders.extend([known.offset as usize, (known.offset + known.image_bytes) as usize]);
+        borders.extend(known.spans.iter().flat_map(|span| [span.start as usize + 8, span.end() as usize]));
+    }
+    borders
+}
+
+/// Pieces that make up the file: all of 256 bytes, or of one, or of any lengths, none too, many of them ending beside a border.
+fn pieces(random: &mut Random, file: &[u8]) -> Vec<Piece> {
+    let borders = borders(file);
+    let same = match random.below(8) {
+        0 => Some(256),
+        1 if file.len() < 2000 => Some(1),
+        _ => None,
+    };
+    let often = random.pick(&[2, 4, 16]);
+    let mut pieces = Vec::new();
+    let mut begin = 0;
+    while begin < file.len() || random.once_in(4) {
+        let left = file.len() - begin;
+        let beside = (random.pick(&borders) + random.size(3)).saturating_sub(begin + 1);
+        let (few, more) = (2 + random.size(20), random.size(600));
+        let any = random.pick(&[0, 1, few, few, more, 256, 65_536, left, beside, beside, beside, beside]);
+        let length = same.unwrap_or(any).min(left);
+        pieces.push(Piece { length, at: place(random, length), asked: random.once_in(often) });
+        begin += length;
+    }
+    pieces
+}
+
+/// The words of a state of reading in pieces where its members begin, the spans after them.
+const TAKEN: usize = 0;
+const FRONT: usize = 1;
+const AT: usize = 45;
+const COUNT: usize = 46;
+const COMING: usize = 47;
+
+/// Words to change a state by: some, vox_offset or the extender in the front among them, or all.
+fn words(random: &mut Random) -> Vec<(usize, u64)> {
+    if random.once_in(16) {
+        let taken = random.below(2 * TOTAL);
+        return (0..STATE_WORDS).map(|word| (word, if word == TAKEN { taken } else { random.next() })).collect();
+    }
+    let any = random.next();
+    let values = [0, 1, 63, 64, 65, 255, 256, 348, 351, 352, 353, 360, 368, 1 << 31, 1 << 32, 1 << 63, u64::MAX, u64::MAX - 7, any];
+    let limits = [REGION_LIMIT, REGION_LIMIT + 1, TOTAL, TOTAL - 1, TOTAL - 300, TOTAL + 1, u64::MAX - TOTAL];
+    (0..1 + random.size(4))
+        .map(|_| {
+            let anywhere = random.size(STATE_WORDS);
+            let word = random.pick(&[TAKEN, AT, AT, COUNT, COUNT, COMING, FRONT + 108 / 8, FRONT + 348 / 8, anywhere]);
+            (word, if random.once_in(3) { random.pick(&limits) } else { random.pick(&values) })
+        })
+        .collect()
+}
+
 fn other_bytes<'a>(other: &'a Other, zeros: &'a [u8]) -> &'a [u8] {
     match other {
         Other::Own(bytes) => bytes,
@@ -465,7 +558,11 @@ impl Case {
     }
 
     fn at(call: Call, main: Vec<u8>, other: Other) -> Case {
-        Case { call, main, other, main_at: Where::Back, other_at: Where::Back }
+        Case { call, main, other, main_at: Where::Back, other_at: Where::Back, feeding: Feeding::Not }
+    }
+
+    fn fed(main: Vec<u8>, feeding: Feeding) -> Case {
+        Case { feeding, ..Case::at(Call::Read, main, Other::Own(Vec::new())) }
     }
 
     /// The case of this number.
@@ -494,7 +591,11 @@ impl Case {
         };
         let main_at = place(random, main.len());
         let other_at = place(random, other_bytes(&other, zeros).len());
-        Case { call, main, other, main_at, other_at }
+        let feeding = match call {
+            Call::Read | Call::ExtensionAt { .. } => Feeding::Pieces { pieces: pieces(random, &main), words: words(random) },
+            _ => Feeding::Not,
+        };
+        Case { call, main, other, main_at, other_at, feeding }
     }
 }
 
@@ -521,8 +622,107 @@ fn slice(random: &mut Random, file: &[u8], known: Option<&Known>) -> u64 {
     number(random, slices)
 }
 
-/// The cases at 2^27 and 2^40, which take up to half a gigabyte while they run.
-pub const LARGE: u64 = 22;
+/// The cases that hang on no seed, and come first.
+pub const FIXED: u64 = LARGE + CUT + TALL;
+
+/// The cases at 2^27 and 2^40, which take up to half a gigabyte while they run; the files that are cut at every place; those that
+/// are fed up to 2^41 bytes.
+const LARGE: u64 = 22;
+const CUT: u64 = 20;
+const TALL: u64 = 12;
+
+pub fn fixed(number: u64) -> Case {
+    if number < LARGE {
+        large(number)
+    } else if number < LARGE + CUT {
+        Case::fed(cut_everywhere(number - LARGE), Feeding::EveryCut)
+    } else {
+        Case::fed(tall(number - LARGE - CUT), Feeding::ToTotal)
+    }
+}
+
+/// Extensions of these sizes and codes, joined.
+fn extensions(order: Order, list: &[(i32, i32)]) -> Vec<u8> {
+    list.iter().flat_map(|&(size, code)| extension(order, size, code, &vec![0x2e; (size.clamp(8, 4096) - 8) as usize])).collect()
+}
+
+/// A pair's header file whose region is these bytes.
+fn pair_over(order: Order, region: &[u8]) -> Vec<u8> {
+    Header::new(order, true).dims(&[3, 2]).datatype(4).file(&[&EXTENSIONS, region])
+}
+
+/// A single file whose region is these bytes, or only what stands before its image.
+fn single_over(order: Order, region: &[u8]) -> Header {
+    Header::new(order, false).dims(&[3, 2]).datatype(4).offset(((REGION as usize + region.len()) as f32).to_bits())
+}
+
+fn whole_single(order: Order, region: &[u8]) -> Vec<u8> {
+    single_over(order, region).file(&[&EXTENSIONS, region, &[0x77; 15]])
+}
+
+/// Files in which an answer of the bytes so far is another than that of the whole, or one rule is broken before another is known to
+/// be: in a single file 11 goes before all that its extensions do wrong, and in a pair an extension that has not come whole is 13,
+/// whatever its code.
+fn cut_everywhere(number: u64) -> Vec<u8> {
+    use Order::{Big, Little};
+    let many = |count| vec![(16, 2); count];
+    match number {
+        0 => crate::files::file_a(),
+        1 => pair_over(Big, &extensions(Big, &[(16, 0), (48, 2), (32, 4)])),
+        2 => whole_single(Little, &extensions(Little, &[(32, 6), (16, i32::MAX)])),
+        // 11, then 13, 14 and 15
+        3 => whole_single(Big, &extensions(Big, &[(16, 0), (24, 2)])),
+        4 => whole_single(Little, &extensions(Little, &[(32, 0), (32, -1)])),
+        5 => whole_single(Big, &extensions(Big, &many(65))),
+        // 13, then 14; then 13 for good, as the size passes the end
+        6 => pair_over(Little, &extensions(Little, &[(16, 0), (48, -1)])),
+        7 => pair_over(Big, &extensions(Big, &[(48, i32::MIN), (16, 0)])),
+        8 => pair_over(Little, &extensions(Little, &[(16, 0), (48, -1)])[..48]),
+        // 15 at a byte of a 65th, whatever it holds
+        9 => pair_over(Big, &extensions(Big, &many(65))),
+        10 => pair_over(Little, &[extensions(Little, &many(64)), vec![0xff; 8]].concat()),
+        // 11, then 12
+        11 => single_over(Little, &[0; 16]).file(&[&[1, 0, 0, 1], &extensions(Little, &[(16, 0)]), &[0x77; 12]]),
+        12 => Header::new(Big, true).dims(&[3, 2]).datatype(4).file(&[&[0, 1, 0, 0], &extensions(Big, &[(16, 0)])]),
+        // fewer than 8, and fewer than 16 bytes before the image, which are no extension
+        13 => whole_single(Little, &[extensions(Little, &[(16, 0)]), vec![16, 0, 0]].concat()),
+        14 => whole_single(Big, &[extensions(Big, &[(16, 0)]), vec![0, 0, 0, 16, 0, 0, 0, 2, 5, 5, 5, 5, 5]].concat()),
+        // a size that passes the region's end and not the file's
+        15 => single_over(Big, &[0; 16]).file(&[&EXTENSIONS, &extensions(Big, &[(32, 0)]), &[0x77; 4]]),
+        // private bytes that look like an extension
+        16 => single_over(Little, &[0; 16]).file(&[&NO_EXTENSIONS, &extensions(Little, &[(16, 3)]), &[0x77; 12]]),
+        17 => Header::new(Big, true).dims(&[3, 2]).datatype(4).file(&[&NO_EXTENSIONS, &extensions(Big, &[(16, 3)])]),
+        // an empty region
+        18 => whole_single(Big, &[]),
+        _ => pair_over(Little, &[]),
+    }
+}
+
+/// Fronts of files that zeros follow up to 2^41 bytes. A pair's is too long past 2^27 whatever its extensions are, and a single
+/// file's with the longest image too short for it below 2^40 and some.
+fn tall(number: u64) -> Vec<u8> {
+    use Order::{Big, Little};
+    let full = (REGION_LIMIT - REGION) as i32;
+    let longest = |order, list: &[(i32, i32)]| {
+        let region = extensions(order, list);
+        single_over(order, &region).dims(&[16384, 16384, 4096]).datatype(2).file(&[&EXTENSIONS, &region])
+    };
+    let head = |order, size, code| extension(order, size, code, &[]);
+    match number {
+        0 => crate::files::file_a(),
+        1 => longest(Little, &[(16, 0), (48, 2)]),
+        2 => longest(Big, &[(16, 0), (24, 2)]),
+        3 => longest(Little, &[(16, 0), (32, -1)]),
+        4 => longest(Big, &vec![(16, 0); 65]),
+        5 => single_over(Big, &[]).offset(0x4d00_0000).file(&[&EXTENSIONS, &head(Big, full, 6)]),
+        6 => pair_over(Little, &head(Little, full, 6)),
+        7 => pair_over(Big, &extensions(Big, &[(16, 0), (32, -1)])),
+        8 => pair_over(Little, &extensions(Little, &[(24, 0)])),
+        9 => pair_over(Big, &extensions(Big, &vec![(16, 0); 65])),
+        10 => pair_over(Little, &head(Little, 0x7fff_fff0, 6)),
+        _ => Header::new(Big, true).dims(&[3, 2]).datatype(4).bytes,
+    }
+}
 
 /// A single file with one extension whose region ends at 2^27, and twelve image bytes.
 fn single_at_limit(order: Order) -> Vec<u8> {
@@ -541,7 +741,7 @@ fn long_pair(length: u64) -> Vec<u8> {
     file
 }
 
-pub fn large(number: u64) -> Case {
+fn large(number: u64) -> Case {
     let none = || Other::Own(Vec::new());
     let most = (REGION_LIMIT - REGION - 8) as usize;
     let full = REGION_LIMIT + 12;

@@ -1,4 +1,4 @@
-//! The library's nine calls as include/vestumbral.h declares them, and their answers. Nothing checks these declarations but the
+//! The library's thirteen calls as include/vestumbral.h declares them, and their answers. Nothing checks these declarations but the
 //! comparison itself, so they are kept beside one another and in the header's order.
 
 use std::fmt;
@@ -73,6 +73,21 @@ pub struct PositionAnswer {
     pub z: Float,
 }
 
+/// The state of reading in pieces, by its words, of 8 bytes each: its members are the library's own.
+#[repr(C)]
+#[derive(Clone, Copy, PartialEq, Eq)]
+pub struct Pieces(pub [u64; STATE_WORDS]);
+
+pub const STATE_WORDS: usize = 176;
+
+#[repr(C)]
+#[derive(Clone, Copy)]
+pub struct Taken {
+    pub refusal: u64,
+    pub place: u64,
+    pub pieces: Pieces,
+}
+
 #[link(name = "vestumbral", kind = "static")]
 extern "C" {
     pub fn vestumbral_read(file: *const u8, file_len: usize) -> FileAnswer;
@@ -111,6 +126,10 @@ extern "C" {
         payload_len: usize,
     ) -> Reply;
     pub fn vestumbral_remove(buffer: *mut u8, buffer_len: usize, file_len: u64, number: u64) -> Reply;
+    pub fn vestumbral_pieces_start() -> Pieces;
+    pub fn vestumbral_pieces_take(pieces: Pieces, piece: *const u8, piece_len: usize) -> Taken;
+    pub fn vestumbral_pieces_file(pieces: Pieces) -> FileAnswer;
+    pub fn vestumbral_pieces_extension_at(pieces: Pieces, number: u64) -> ExtensionAnswer;
 }
 
 /// The answer of any call.

@@ -1,5 +1,5 @@
 //! Compares the library, called through its C interface, with the rules of 01-scope.md written a second time in rules.rs: the whole
-//! answer, the whole of every lent buffer, and the bytes beside it.
+//! answer, the whole of every lent buffer, and the bytes beside it. A file that is read is fed in pieces too.
 //!
 //!     differential [--cases N] [--seed S] [--only CASE] [--self-check]
 //!
@@ -9,13 +9,14 @@ mod cases;
 mod files;
 mod library;
 mod memory;
+mod pieces;
 mod rules;
 mod self_check;
 
-use cases::{Call, Case, Other};
+use cases::{Call, Case, Feeding, Other, Piece};
 use library::*;
-use memory::{Area, Where};
-use rules::{Edit, Order, Refusal, Slice};
+use memory::{Area, Tall, Where};
+use rules::{Edit, Known, Order, Refusal, Slice, Span};
 use std::sync::atomic::Ordering;
 
 /// What a call leaves behind: its answer and the content of the two buffers.
@@ -32,8 +33,8 @@ fn reply(done: Result<(u64, u64), Refusal>) -> Answer {
     })
 }
 
-fn file_answer(file: &[u8]) -> Answer {
-    Answer::File(match rules::read(file) {
+fn file_answer(read: &Result<Known, Refusal>) -> FileAnswer {
+    match read {
         Ok(known) => FileAnswer {
             data_offset: known.offset,
             data_bytes: known.image_bytes,
@@ -46,14 +47,14 @@ fn file_answer(file: &[u8]) -> Answer {
             ..FileAnswer::default()
         },
         Err(no) => FileAnswer { refusal: no.number, place: no.place, ..FileAnswer::default() },
-    })
+    }
 }
 
-fn extension_answer(file: &[u8], number: u64) -> Answer {
-    Answer::Extension(match rules::extension_at(file, number) {
+fn extension_answer(found: Result<Span, Refusal>) -> ExtensionAnswer {
+    match found {
         Ok(span) => ExtensionAnswer { start: span.start, size: span.size, code: span.code, ..ExtensionAnswer::default() },
         Err(no) => ExtensionAnswer { refusal: no.number, place: no.place, ..ExtensionAnswer::default() },
-    })
+    }
 }
 
 fn slice_answer(file: &[u8], slice: u64) -> Answer {
@@ -86,8 +87,8 @@ fn by_rules(case: &Case, zeros: &[u8]) -> Outcome {
         Err(no) => kept(reply(Err(no))),
     };
     match case.call {
-        Call::Read => kept(file_answer(main)),
-        Call::ExtensionAt { number } => kept(extension_answer(main, number)),
+        Call::Read => kept(Answer::File(file_answer(&rules::read(main)))),
+        Call::ExtensionAt { number } => kept(Answer::Extension(extension_answer(rules::extension_at(main, number)))),
         Call::Voxel { index } => kept(reply(rules::voxel(main, other.len() as u64, index))),
         Call::SliceAt { slice } => kept(slice_answer(main, slice)),
         Call::PositionOf { index } => kept(position_answer(main, index)),
@@ -107,6 +108,7 @@ struct Memory {
     other: Area,
     zeros: &'static [u8],
     closed: *mut u8,
+    tall: Tall,
 }
 
 /// Calls the library.
@@ -139,8 +141,8 @@ fn buffer_difference(name: &str, rules: &[u8], library: &[u8], guards_kept: bool
     (!guards_kept).then(|| format!("{name}: bytes beside it were changed"))
 }
 
-/// The rules' answer, and how the library differs from the rules.
-fn compare(case: &Case, memory: &mut Memory) -> (Answer, Option<String>) {
+/// How the library differs from the rules.
+fn compare(case: &Case, memory: &mut Memory, counts: &mut Counts) -> Option<String> {
     let expected = by_rules(case, memory.zeros);
     let main = memory.main.lend(&case.main, case.main_at);
     let own = match &case.other {
@@ -154,14 +156,15 @@ fn compare(case: &Case, memory: &mut Memory) -> (Answer, Option<String>) {
         Other::Closed(length) => (memory.closed, length),
     };
     let answer = unsafe { call(case.call, main.pointer, main.length, other, other_len) };
-    let difference = if answer != expected.answer {
-        Some(format!("\n  rules   {:?}\n  library {:?}", expected.answer, answer))
-    } else {
-        buffer_difference("buffer", &expected.main, memory.main.content(&main), memory.main.guards_kept(&main)).or_else(|| {
+    counts.add(call_number(&case.call), expected.answer.refusal());
+    if answer != expected.answer {
+        return Some(format!("\n  rules   {:?}\n  library {:?}", expected.answer, answer));
+    }
+    buffer_difference("buffer", &expected.main, memory.main.content(&main), memory.main.guards_kept(&main))
+        .or_else(|| {
             buffer_difference("other buffer", &expected.other, memory.other.content(&lent), memory.other.guards_kept(&lent))
         })
-    };
-    (expected.answer, difference)
+        .or_else(|| pieces::difference(memory.main.content(&main), &case.feeding, &mut memory.other, &mut memory.tall, counts))
 }
 
 /// Bytes as hexadecimal runs after their places; zeros are left out, and so is all past 65,536.
@@ -184,25 +187,43 @@ fn show(case: &Case) -> String {
         Other::Closed(length) => format!("{length} bytes that can't be read"),
     };
     format!(
-        "  {:?}\n  file or buffer ({:?}): {}\n  image or payload ({:?}): {}",
+        "  {:?}\n  file or buffer ({:?}): {}\n  image or payload ({:?}): {}\n  in pieces: {:?}",
         case.call,
         case.main_at,
         hex(&case.main),
         case.other_at,
-        other
+        other,
+        case.feeding
     )
 }
 
-/// The case with its bytes cleared, wherever a difference stays.
+/// The case with its pieces joined and its bytes cleared, wherever a difference stays.
 fn reduce(case: &Case, memory: &mut Memory) -> Case {
+    let mut differs = |case: &Case| compare(case, memory, &mut Counts::default()).is_some();
     let mut least = case.clone();
+    let mut place = 0;
+    while let Feeding::Pieces { mut pieces, words } = least.feeding.clone() {
+        if place + 1 >= pieces.len() {
+            break;
+        }
+        let next = pieces.remove(place + 1);
+        let joined = &mut pieces[place];
+        let at = if joined.length == 0 { next.at } else { joined.at };
+        *joined = Piece { length: joined.length + next.length, at, asked: next.asked };
+        let smaller = Case { feeding: Feeding::Pieces { pieces, words }, ..least.clone() };
+        if differs(&smaller) {
+            least = smaller;
+        } else {
+            place += 1;
+        }
+    }
     let mut step = least.main.len().next_power_of_two();
     while step > 0 {
         for from in (0..least.main.len()).step_by(step) {
             let mut smaller = least.clone();
             let to = (from + step).min(smaller.main.len());
             smaller.main[from..to].fill(0);
-            if smaller.main != least.main && compare(&smaller, memory).1.is_some() {
+            if smaller.main != least.main && differs(&smaller) {
                 least = smaller;
             }
         }
@@ -211,19 +232,24 @@ fn reduce(case: &Case, memory: &mut Memory) -> Case {
     if let Other::Own(bytes) = &mut least.other.clone() {
         bytes.fill(0);
         let smaller = Case { other: Other::Own(bytes.clone()), ..least.clone() };
-        if compare(&smaller, memory).1.is_some() {
+        if differs(&smaller) {
             least = smaller;
         }
     }
     least
 }
 
-const CALLS: [&str; 9] = ["read", "extension", "voxel", "slice", "position", "swap", "append", "replace", "remove"];
+const CALLS: [&str; 12] =
+    ["read", "extension", "voxel", "slice", "position", "swap", "append", "replace", "remove", "take", "pieces", "pieces_ext"];
+const PIECES_TAKE: usize = 9;
+const PIECES_FILE: usize = 10;
+const PIECES_EXTENSION: usize = 11;
 
 /// The refusals that each call can give.
 fn possible(call: usize) -> Vec<usize> {
     let more: &[usize] = match CALLS[call] {
-        "extension" => &[18],
+        "take" => return vec![25],
+        "extension" | "pieces_ext" => &[18],
         "voxel" => &[16, 17],
         "slice" => &[17],
         "position" => &[17, 23],
@@ -250,22 +276,33 @@ fn call_number(call: &Call) -> usize {
     }
 }
 
+const REFUSALS: usize = 25;
+
 /// How often each refusal, 0 for done, was reached by each call.
-type Counts = [[u64; 25]; 9];
+#[derive(Default)]
+struct Counts([[u64; REFUSALS + 1]; CALLS.len()]);
 
-fn print_counts(counts: &Counts) {
-    println!("{:>9} {:>10}  by call: {}", "refusal", "cases", CALLS.map(|call| format!("{call:>9}")).concat());
-    for number in 0..25 {
-        let name = if number == 0 { "none".to_string() } else { number.to_string() };
-        let by_call = counts.map(|row| format!("{:>9}", row[number])).concat();
-        println!("{name:>9} {:>10}           {by_call}", counts.iter().map(|row| row[number]).sum::<u64>());
+impl Counts {
+    fn add(&mut self, call: usize, refusal: u64) {
+        self.0[call][refusal as usize] += 1;
     }
-}
 
-/// Which refusals were never reached.
-fn missing(counts: &Counts) -> Vec<String> {
-    let all = (0..9).flat_map(|call| possible(call).into_iter().map(move |number| (call, number)));
-    all.filter(|&(call, number)| counts[call][number] == 0).map(|(call, number)| format!("{number} by {}", CALLS[call])).collect()
+    fn print(&self) {
+        println!("{:>9} {:>10}  by call: {}", "refusal", "answers", CALLS.map(|call| format!("{call:>11}")).concat());
+        for number in 0..=REFUSALS {
+            let name = if number == 0 { "none".to_string() } else { number.to_string() };
+            let by_call = self.0.map(|row| format!("{:>11}", row[number])).concat();
+            println!("{name:>9} {:>10}           {by_call}", self.0.iter().map(|row| row[number]).sum::<u64>());
+        }
+    }
+
+    /// Which refusals were never reached.
+    fn missing(&self) -> Vec<String> {
+        let all = (0..CALLS.len()).flat_map(|call| possible(call).into_iter().map(move |number| (call, number)));
+        all.filter(|&(call, number)| self.0[call][number] == 0)
+            .map(|(call, number)| format!("{number} by {}", CALLS[call]))
+            .collect()
+    }
 }
 
 struct Options {
@@ -291,10 +328,10 @@ fn options() -> Options {
     options
 }
 
-/// The case of this number; the large ones come first.
+/// The case of this number.
 fn case(seed: u64, number: u64, zeros: &[u8]) -> Case {
-    if number < cases::LARGE {
-        cases::large(number)
+    if number < cases::FIXED {
+        cases::fixed(number)
     } else {
         Case::new(seed, number, zeros)
     }
@@ -309,8 +346,8 @@ fn main() {
     memory::watch();
     let area = || Area::new(cases::LARGEST);
     let (zeros, closed) = (memory::zeros(cases::ZEROS), memory::closed(cases::CLOSED));
-    let mut memory = Memory { main: area(), other: area(), zeros, closed };
-    let mut counts: Counts = [[0; 25]; 9];
+    let mut memory = Memory { main: area(), other: area(), zeros, closed, tall: Tall::new(cases::TALLEST) };
+    let mut counts = Counts::default();
     let mut differences = 0;
     let numbers = options.only.map_or(0..options.cases, |only| only..only + 1);
     for number in numbers {
@@ -319,20 +356,18 @@ fn main() {
         if options.only.is_some() {
             println!("case {number} of seed {}\n{}", options.seed, show(&case));
         }
-        let (answer, difference) = compare(&case, &mut memory);
-        counts[call_number(&case.call)][answer.refusal() as usize] += 1;
-        if difference.is_some() {
+        if compare(&case, &mut memory, &mut counts).is_some() {
             differences += 1;
             if differences <= 5 {
-                let least = if number < cases::LARGE { case } else { reduce(&case, &mut memory) };
-                let difference = compare(&least, &mut memory).1.unwrap_or_default();
+                let least = if number < cases::FIXED { case } else { reduce(&case, &mut memory) };
+                let difference = compare(&least, &mut memory, &mut Counts::default()).unwrap_or_default();
                 println!("DIFFERENT: case {number} of seed {}, reduced\n{}\n  {difference}", options.seed, show(&least));
             }
         }
     }
     if options.only.is_none() {
-        print_counts(&counts);
-        let missing = missing(&counts);
+        counts.print();
+        let missing = counts.missing();
         if !missing.is_empty() {
             println!("refusals never reached: {}", missing.join(", "));
         }

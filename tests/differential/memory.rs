@@ -36,6 +36,32 @@ pub fn closed(length: usize) -> *mut u8 {
     map(length, NONE).expect("address space for closed bytes")
 }
 
+/// A file that is longer than memory: all but its first bytes are zero and may not be written.
+pub struct Tall {
+    base: *mut u8,
+    length: usize,
+}
+
+impl Tall {
+    /// The first bytes, which may be other than zero.
+    const FRONT: usize = 1 << 14;
+
+    pub fn new(length: usize) -> Tall {
+        let base = zeros(length).as_ptr() as *mut u8;
+        let open = unsafe { mprotect(base as *mut c_void, Tall::FRONT, READ_WRITE) };
+        assert_eq!(open, 0, "memory for a file's front");
+        Tall { base, length }
+    }
+
+    /// The whole file with this front.
+    pub fn with(&mut self, front: &[u8]) -> &[u8] {
+        let room = unsafe { std::slice::from_raw_parts_mut(self.base, Tall::FRONT) };
+        room[..front.len()].copy_from_slice(front);
+        room[front.len()..].fill(0);
+        unsafe { std::slice::from_raw_parts(self.base, self.length) }
+    }
+}
+
 #[derive(Clone, Copy, PartialEq, Debug)]
 pub enum Where {
     /// Right after the untouchable page.

@@ -1,9 +1,12 @@
-//! The rules of 01-scope.md a second time, written from the paper alone, to compare the library with. Nothing here is fast and
-//! nothing is in place: an edit builds its fresh file, a swap turns a copy. Field places are those of source document 003.
+//! The rules of 01-scope.md and of the requests after it a second time, written from the papers alone, to compare the library with.
+//! Nothing here is fast and nothing is in place: an edit builds its fresh file, a swap turns a copy. Field places are those of source
+//! document 003.
 
 /// The longest pair's header file, and the last place at which an extension region may end.
 pub const REGION_LIMIT: u64 = 134_217_728;
 pub const IMAGE_LIMIT: u64 = 1_099_511_627_776;
+/// The most bytes that the pieces of a file come to.
+pub const TOTAL: u64 = 2_199_023_255_552;
 pub const MOST_EXTENSIONS: usize = 64;
 pub const HEADER: usize = 348;
 /// Where the extension region begins.
@@ -106,6 +109,12 @@ pub struct Span {
     pub code: i32,
 }
 
+impl Span {
+    pub fn end(&self) -> u64 {
+        self.start + self.size as u64
+    }
+}
+
 /// What reading tells of an accepted file.
 #[derive(Clone, PartialEq, Eq, Debug)]
 pub struct Known {
@@ -141,6 +150,11 @@ impl Known {
     pub fn voxel_bytes(&self) -> u64 {
         self.bitpix as u64 / 8
     }
+
+    /// Where an extension after those in `spans` begins.
+    fn next_start(&self) -> u64 {
+        self.spans.last().map_or(REGION, Span::end)
+    }
 }
 
 /// The byte order in which dim[0] is in 1..7.
@@ -148,8 +162,8 @@ fn order_of(file: &[u8]) -> Option<Order> {
     [Order::Little, Order::Big].into_iter().find(|&order| (1..=7).contains(&i16_at(file, 40, order)))
 }
 
-/// Refusals 1 to 15.
-pub fn read(file: &[u8]) -> Result<Known, Refusal> {
+/// What the header and the file's length tell, without the extensions. Refusals 1 to 12.
+fn layout(file: &[u8]) -> Result<Known, Refusal> {
     let length = file.len() as u64;
     if file.len() < HEADER {
         return refuse(1, 0);
@@ -202,44 +216,69 @@ pub fn read(file: &[u8]) -> Result<Known, Refusal> {
         _ => return refuse(12, 348),
     };
     let region_end = if pair { length } else { offset };
-    let spans = if extended { list(file, region_end, order)? } else { Vec::new() };
-    Ok(Known { order, pair, dim, datatype, bitpix, unit, offset, image_bytes, region_end, extended, spans })
+    Ok(Known { order, pair, dim, datatype, bitpix, unit, offset, image_bytes, region_end, extended, spans: Vec::new() })
 }
 
-/// The extensions from 352 to the region's end; at least one. Refusals 13 to 15.
-fn list(file: &[u8], end: u64, order: Order) -> Result<Vec<Span>, Refusal> {
-    let mut spans = Vec::new();
-    let mut start = REGION;
-    loop {
-        if spans.len() == MOST_EXTENSIONS {
-            return refuse(15, start);
+/// What is known of a file that rules 1 to 12 do not refuse, with its extensions up to the first that rules 13 to 15 refuse, and
+/// that refusal. Refusals 1 to 12.
+pub fn walked(file: &[u8]) -> Result<(Known, Option<Refusal>), Refusal> {
+    let mut known = layout(file)?;
+    while known.extended && (known.spans.is_empty() || known.next_start() < known.region_end) {
+        match next_extension(file, &known) {
+            Ok(span) => known.spans.push(span),
+            Err(no) => return Ok((known, Some(no))),
         }
-        let left = end - start;
-        if left < 16 {
-            return refuse(13, start);
-        }
-        let size = i32_at(file, start as usize, order);
-        if size <= 0 || size % 16 != 0 || size as u64 > left {
-            return refuse(13, start);
-        }
-        let code = i32_at(file, start as usize + 4, order);
-        if code < 0 {
-            return refuse(14, start + 4);
-        }
-        spans.push(Span { start, size, code });
-        start += size as u64;
-        if start == end {
-            return Ok(spans);
-        }
+    }
+    Ok((known, None))
+}
+
+/// Refusals 1 to 15.
+pub fn read(file: &[u8]) -> Result<Known, Refusal> {
+    match walked(file)? {
+        (known, None) => Ok(known),
+        (_, Some(no)) => Err(no),
+    }
+}
+
+/// The extension after those that are known, where one must follow. Refusals 13 to 15.
+fn next_extension(file: &[u8], known: &Known) -> Result<Span, Refusal> {
+    let start = known.next_start();
+    if known.spans.len() == MOST_EXTENSIONS {
+        return refuse(15, start);
+    }
+    let left = known.region_end - start;
+    if left < 16 {
+        return refuse(13, start);
+    }
+    let size = i32_at(file, start as usize, known.order);
+    if size <= 0 || size % 16 != 0 || size as u64 > left {
+        return refuse(13, start);
+    }
+    let code = i32_at(file, start as usize + 4, known.order);
+    if code < 0 {
+        return refuse(14, start + 4);
+    }
+    Ok(Span { start, size, code })
+}
+
+/// Refusal 18.
+pub fn numbered(known: &Known, number: u64) -> Result<Span, Refusal> {
+    match known.spans.iter().enumerate().find(|(i, _)| *i as u64 == number) {
+        Some((_, span)) => Ok(*span),
+        None => refuse(18, 0),
     }
 }
 
 /// Refusals 1 to 15, then 18.
 pub fn extension_at(file: &[u8], number: u64) -> Result<Span, Refusal> {
-    let known = read(file)?;
-    match known.spans.iter().enumerate().find(|(i, _)| *i as u64 == number) {
-        Some((_, span)) => Ok(*span),
-        None => refuse(18, 0),
+    numbered(&read(file)?, number)
+}
+
+/// How many bytes there are after a piece, of which the answers are those of the whole file that they make. Refusal 25.
+pub fn take(taken: u64, piece: u64) -> Result<u64, Refusal> {
+    match taken.checked_add(piece) {
+        Some(sum) if sum <= TOTAL => Ok(sum),
+        _ => refuse(25, 0),
     }
 }
 

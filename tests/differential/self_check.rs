@@ -4,6 +4,7 @@
 
 use crate::cases;
 use crate::files::{extension, file_a, Header, EXTENSIONS, NO_EXTENSIONS, OFFSET_352};
+use crate::pieces::twin;
 use crate::rules::*;
 use std::fmt::Debug;
 
@@ -183,6 +184,29 @@ fn extensions(checks: &mut Checks) {
     checks.refused("unaligned region", read(&unaligned), 13, 352);
 }
 
+/// The total of the pieces, and the answers of the bytes so far: in a single file 11 before all that its extensions do wrong, in a
+/// pair 13 for one that has not come whole.
+fn pieces(checks: &mut Checks) {
+    checks.equal("pieces up to the total", take(1, 2_199_023_255_551), Ok(2_199_023_255_552));
+    checks.equal("an empty piece at the total", take(2_199_023_255_552, 0), Ok(2_199_023_255_552));
+    checks.refused("a byte past the total", take(2_199_023_255_552, 1), 25, 0);
+    checks.refused("a piece past the total", take(0, 2_199_023_255_553), 25, 0);
+    checks.refused("a sum past 64 bits", take(2_199_023_255_552, u64::MAX), 25, 0);
+    let extensions = |order| [extension(order, 16, 0, &[5; 8]), extension(order, 48, -1, &[5; 40])].concat();
+    let pair = pair(LITTLE).file(&[&EXTENSIONS, &extensions(LITTLE)]);
+    let rows = [(0, 1, 0), (347, 1, 0), (349, 12, 348), (351, 12, 348), (352, 13, 352), (367, 13, 352), (369, 13, 368)];
+    for (length, number, place) in rows.into_iter().chain([(376, 13, 368), (415, 13, 368), (416, 14, 372)]) {
+        checks.refused("the pair so far", read(&pair[..length]), number, place);
+    }
+    checks.equal("the pair of 348 and of 368 bytes", [348, 368].map(|n| read(&pair[..n]).unwrap().spans.len()), [0, 1]);
+    let single = single(BIG).offset(416_f32.to_bits()).file(&[&EXTENSIONS, &extensions(BIG), &[7; 12]]);
+    for (length, number, place) in [(347, 1, 0), (348, 11, 108), (416, 11, 108), (427, 11, 108), (428, 14, 372)] {
+        checks.refused("the single file so far", read(&single[..length]), number, place);
+    }
+    let turned = [&single[..360], &[!5; 8], &single[368..376], &[!5; 40], &[!7; 12]].concat();
+    checks.equal("its payloads and voxels turned", twin(&single), Some(turned));
+}
+
 /// SEQ_INC, SEQ_DEC, ALT_INC, ALT_DEC, ALT_INC2, ALT_DEC2 of slices 1 to 5, ten times the times of document 004's table.
 const TIMING_TABLE: [[i64; 6]; 5] =
     [[0, 4, 0, 2, 2, 4], [1, 3, 3, 4, 0, 1], [2, 2, 1, 1, 3, 3], [3, 1, 4, 3, 1, 0], [4, 0, 2, 0, 4, 2]];
@@ -359,12 +383,13 @@ fn edits(checks: &mut Checks) {
     checks.equal("the middle replaced", edit(&three, 416, &middle), Ok((replaced, 400)));
 }
 
-/// Laws on random files: a swap twice restores, an edit's result is accepted and keeps every voxel, removing the extension just
-/// appended restores the file, and the voxels' ranges fill the image.
+/// Laws on random files: bytes that a state may not keep change nothing that is read, a swap twice restores, an edit's result is
+/// accepted and keeps every voxel, removing the extension just appended restores the file, and the voxels' ranges fill the image.
 fn laws(checks: &mut Checks) {
     let mut accepted = 0;
     for number in 0..2000 {
         let file = &cases::file(&mut cases::Random::new(7, number));
+        checks.holds("a twin is read alike", twin(file).map_or(true, |twin| read(&twin) == read(file)));
         let Ok(known) = read(file) else {
             continue;
         };
@@ -413,7 +438,7 @@ fn voxels_fill(known: &Known, file: &[u8], image: &[u8]) -> bool {
 
 pub fn run() {
     let mut checks = Checks::default();
-    for part in [file_a_numbers, offsets, images, headers, extensions, slices, positions, swaps, edits, laws] {
+    for part in [file_a_numbers, offsets, images, headers, extensions, pieces, slices, positions, swaps, edits, laws] {
         part(&mut checks);
     }
     println!("self-check: {} checks, {} failed", checks.done, checks.failed);
