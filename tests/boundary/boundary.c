@@ -1,7 +1,7 @@
 /*
  * The C interface from the C side: every call with NULL, with one byte, at exact fits and on the numbers of 01-scope.md ("Numbers
- * on each side"). Buffers come from the heap, under the address sanitizer, and once more from memory that ends at a page which may
- * not be touched: the library is not built with the sanitizer, so only the second way sees each of its own reads and writes.
+ * on each side"). Buffers come from the heap, under the address sanitizer, and once more from memory that ends, or begins, at a page
+ * which may not be touched: the library is not built with the sanitizer, so only these ways see each of its own reads and writes.
  */
 #include "../nifti.h"
 #include "vestumbral.h"
@@ -17,6 +17,9 @@ _Static_assert(offsetof(vestumbral_file, datatype) == 56 && offsetof(vestumbral_
 _Static_assert(sizeof(vestumbral_extension) == 32 && offsetof(vestumbral_extension, code) == 28, "extension");
 _Static_assert(sizeof(vestumbral_slice) == 32 && offsetof(vestumbral_slice, seconds) == 24, "slice");
 _Static_assert(sizeof(vestumbral_position) == 32 && offsetof(vestumbral_position, z) == 24, "position");
+_Static_assert(sizeof(vestumbral_pieces) == 1408 && offsetof(vestumbral_pieces, at) == 360, "pieces");
+_Static_assert(offsetof(vestumbral_pieces, coming) == 376 && offsetof(vestumbral_pieces, spans[63].code) == 1404, "pieces");
+_Static_assert(sizeof(vestumbral_taken) == 1424 && offsetof(vestumbral_taken, pieces) == 16, "taken");
 
 static unsigned checks, failed;
 
@@ -60,9 +63,9 @@ static void file_a(uint8_t *file)
         file[352 + i] = i + 1;
 }
 
-/* Memory of so many bytes: from the heap, or ending where the next byte may not be touched. */
-enum source { HEAP, FENCED };
-enum { PAGE = 4096, PAGES = 3 };
+/* Memory of so many bytes: from the heap, or such that the byte after it, or before it, may not be touched. */
+enum source { HEAP, FENCE_AFTER, FENCE_BEFORE };
+enum { PAGE = 4096, PAGES = 3, FENCED = (PAGES + 2) * PAGE };
 
 static uint8_t *take(enum source source, size_t length)
 {
@@ -71,9 +74,9 @@ static uint8_t *take(enum source source, size_t length)
         if (bytes)
             return bytes;
     } else {
-        uint8_t *low = mmap(NULL, (PAGES + 1) * PAGE, PROT_NONE, MAP_PRIVATE | MAP_ANONYMOUS, -1, 0);
-        if (low != MAP_FAILED && length <= PAGES * PAGE && mprotect(low, PAGES * PAGE, PROT_READ | PROT_WRITE) == 0)
-            return low + PAGES * PAGE - length;
+        uint8_t *low = mmap(NULL, FENCED, PROT_NONE, MAP_PRIVATE | MAP_ANONYMOUS, -1, 0);
+        if (low != MAP_FAILED && length <= PAGES * PAGE && mprotect(low + PAGE, PAGES * PAGE, PROT_READ | PROT_WRITE) == 0)
+            return source == FENCE_BEFORE ? low + PAGE : low + FENCED - PAGE - length;
     }
     puts("boundary: no memory");
     exit(2);
@@ -84,7 +87,25 @@ static void give_back(enum source source, uint8_t *bytes, size_t length)
     if (source == HEAP)
         free(bytes);
     else
-        munmap(bytes + length - PAGES * PAGE, (PAGES + 1) * PAGE);
+        munmap(source == FENCE_BEFORE ? bytes - PAGE : bytes + length + PAGE - FENCED, FENCED);
+}
+
+/* The state after this piece, of which the total is not passed. */
+static vestumbral_pieces fed(vestumbral_pieces pieces, const uint8_t *piece, size_t length)
+{
+    vestumbral_taken taken = vestumbral_pieces_take(pieces, piece, length);
+    REFUSED(taken, 0, 0);
+    return taken.pieces;
+}
+
+/* What a file is, and its extension `number`, are answered alike by its state and by the whole of it. */
+static void as_whole(vestumbral_pieces pieces, const uint8_t *file, size_t length, uint64_t number)
+{
+    vestumbral_file whole = vestumbral_read(file, length), in_pieces = vestumbral_pieces_file(pieces);
+    vestumbral_extension one = vestumbral_extension_at(file, length, number);
+    vestumbral_extension same = vestumbral_pieces_extension_at(pieces, number);
+    CHECK(memcmp(&whole, &in_pieces, sizeof whole) == 0);
+    CHECK(memcmp(&one, &same, sizeof one) == 0);
 }
 
 /* Every call with `length` bytes, 0 or 1, at this pointer, which may be NULL only for 0. */
@@ -111,6 +132,9 @@ static void too_short(uint8_t *bytes, size_t length)
     CHECK(refused(vestumbral_append(bytes, length, length + 1, 0, NULL, 0), 24));
     CHECK(refused(vestumbral_replace(bytes, length, UINT64_MAX, 0, 0, NULL, 0), 24));
     CHECK(refused(vestumbral_remove(bytes, length, length + 1, 0), 24));
+    vestumbral_pieces pieces = fed(vestumbral_pieces_start(), bytes, length);
+    as_whole(pieces, bytes, length, 0);
+    as_whole(fed(pieces, bytes, 0), bytes, length, UINT64_MAX);
 }
 
 static void reading(enum source source)
@@ -349,6 +373,79 @@ static void positions(enum source source)
     give_back(source, file, 348);
 }
 
+/*
+ * A file with three extensions in pieces of every length up to its own, each in memory of its own; asked after each. Its payloads
+ * and its image are a5, a byte that no number of a state has but `taken`.
+ */
+static void pieces_of_each_length(enum source source)
+{
+    const size_t numbers = offsetof(vestumbral_pieces, at);
+    uint8_t file[352 + 96 + 12];
+    header(file, 0, (const int[]){2, 3, 2}, 4, 16, float_bits(448));
+    memset(file + 348, 0xa5, sizeof file - 348);
+    put32(file + 348, 1);
+    for (uint32_t i = 0, at = 352; i < 3; at += 16 * ++i) {
+        put32(file + at, 16 * (i + 1));
+        put32(file + at + 4, 2 * i);
+    }
+    for (size_t length = 1; length <= sizeof file; length++) {
+        vestumbral_pieces pieces = vestumbral_pieces_start();
+        for (size_t at = 0; at < sizeof file; at += length) {
+            size_t rest = sizeof file - at < length ? sizeof file - at : length;
+            uint8_t *piece = take(source, rest);
+            memcpy(piece, file + at, rest);
+            pieces = fed(pieces, piece, rest);
+            CHECK(memcmp(piece, file + at, rest) == 0);
+            give_back(source, piece, rest);
+            as_whole(pieces, file, at + rest, at % 4);
+            CHECK(memchr((const uint8_t *)&pieces + numbers, 0xa5, sizeof pieces - numbers) == NULL);
+        }
+        vestumbral_file answer = vestumbral_pieces_file(fed(pieces, NULL, 0));
+        REFUSED(answer, 0, 0);
+        CHECK(answer.data_offset == 448 && answer.data_bytes == 12 && answer.extensions == 3);
+        vestumbral_extension last = vestumbral_pieces_extension_at(pieces, 2);
+        CHECK(last.refusal == 0 && last.start == 400 && last.size == 48 && last.code == 4);
+        REFUSED(vestumbral_pieces_extension_at(pieces, 3), 18, 0);
+    }
+}
+
+static void past_total(vestumbral_pieces pieces, const uint8_t *piece, size_t length)
+{
+    vestumbral_taken taken = vestumbral_pieces_take(pieces, piece, length);
+    REFUSED(taken, 25, 0);
+    CHECK(memcmp(&taken.pieces, &pieces, sizeof pieces) == 0);
+}
+
+/* The longest image behind a header, with zeros after it up to 2199023255552 bytes, and one byte past them. */
+static void total(void)
+{
+    const size_t many = (size_t)1 << 32, rest = many - 352;
+    const uint8_t *zeros = mmap(NULL, many, PROT_READ, MAP_PRIVATE | MAP_ANONYMOUS | MAP_NORESERVE, -1, 0);
+    if (zeros == MAP_FAILED) {
+        puts("boundary: no address space");
+        exit(2);
+    }
+    uint8_t file[352] = {0};
+    header(file, 0, (const int[]){3, 16384, 16384, 4096}, 2, 8, 0x43b00000);
+    vestumbral_pieces pieces = fed(vestumbral_pieces_start(), file, 352);
+    for (int i = 1; i < 512; i++) {
+        REFUSED(vestumbral_pieces_file(pieces), i > 256 ? 0 : 11, i > 256 ? 0 : 108);
+        pieces = fed(pieces, zeros, many);
+    }
+    past_total(pieces, zeros, rest + 1);
+    past_total(pieces, zeros, many);
+    pieces = fed(pieces, zeros, rest - 1);
+    past_total(pieces, zeros, 2);
+    pieces = fed(pieces, zeros, 1);
+    past_total(pieces, zeros, 1);
+    pieces = fed(fed(pieces, zeros, 0), NULL, 0);
+    vestumbral_file answer = vestumbral_pieces_file(pieces);
+    REFUSED(answer, 0, 0);
+    CHECK(answer.data_offset == 352 && answer.data_bytes == 1099511627776 && answer.extensions == 0);
+    REFUSED(vestumbral_pieces_extension_at(pieces, 0), 18, 0);
+    munmap((void *)zeros, many);
+}
+
 int main(void)
 {
     uint8_t one = 0x5c;
@@ -356,7 +453,8 @@ int main(void)
     too_short(&one, 1);
     CHECK(one == 0x5c);
     image_limit();
-    for (enum source source = HEAP; source <= FENCED; source++) {
+    total();
+    for (enum source source = HEAP; source <= FENCE_BEFORE; source++) {
         uint8_t *byte = take(source, 1);
         *byte = 1;
         too_short(byte, 1);
@@ -370,6 +468,7 @@ int main(void)
         swaps(source);
         slices(source);
         positions(source);
+        pieces_of_each_length(source);
     }
     printf("boundary: %u checks, %u failed\n", checks, failed);
     return failed != 0;

@@ -1,9 +1,9 @@
 /*
  * The calls in floating-point states that are not the default: each rounding mode, with flush-to-zero and denormals-are-zero, and
- * with every exception trapped. There read, extension_at, voxel, swap and the edits answer as in the default state, leave the same
- * bytes in every lent buffer, and do not touch the state: their only float is the vox_offset of an edit, a multiple of 16 up to
- * 2^27, which no state rounds. Slice times and positions are computed in the state, so the header asks for the default; the lines
- * that are printed show what another makes of one of each.
+ * with every exception trapped. There read, extension_at, voxel, swap, the edits and the calls for pieces answer as in the default
+ * state, leave the same bytes in every lent buffer, and do not touch the state: their only float is the vox_offset of an edit, a
+ * multiple of 16 up to 2^27, which no state rounds. Slice times and positions are computed in the state, so the header asks for the
+ * default; the lines that are printed show what another makes of one of each.
  */
 #include "../nifti.h"
 #include "vestumbral.h"
@@ -60,19 +60,28 @@ static void tell(const char *what, const void *bytes, size_t length)
     told++;
 }
 
-enum { PAYLOAD = 100000, SMALL = 512, VOXELS = 24 };
+enum { PAYLOAD = 100000, SMALL = 512, VOXELS = 24, PIECE = 256 };
 static uint8_t buffer[SMALL + 2 * PAYLOAD], payload[PAYLOAD], image[VOXELS];
 
 /* Answers by value have no padding, so their bytes can be told. */
 _Static_assert(sizeof(vestumbral_reply) == 24 && sizeof(vestumbral_file) == 64 && sizeof(vestumbral_extension) == 32, "padding");
+_Static_assert(sizeof(vestumbral_taken) == 1424, "padding");
 
 static void look(size_t length)
 {
     vestumbral_file file = vestumbral_read(buffer, length);
     tell("read", &file, sizeof file);
+    vestumbral_taken taken = {.pieces = vestumbral_pieces_start()};
+    for (size_t at = 0; at < length; at += PIECE)
+        taken = vestumbral_pieces_take(taken.pieces, buffer + at, length - at < PIECE ? length - at : PIECE);
+    tell("pieces_take", &taken, sizeof taken);
+    file = vestumbral_pieces_file(taken.pieces);
+    tell("pieces_file", &file, sizeof file);
     for (uint64_t i = 0; i < 3; i++) {
         vestumbral_extension extension = vestumbral_extension_at(buffer, length, i);
         tell("extension_at", &extension, sizeof extension);
+        extension = vestumbral_pieces_extension_at(taken.pieces, i);
+        tell("pieces_extension_at", &extension, sizeof extension);
     }
     for (uint64_t i = 0; i < 4; i++)
         for (uint64_t j = 0; j < 2; j++) {
