@@ -1,17 +1,21 @@
 /*
  * Speed of the library beside memcpy, memmove and plain C, on the same input in the same run. Each time is the best of several
  * rounds, and in a round all of a row's ways are taken in turn. Every buffer is written before the first round. The table has the
- * time of one call, or of one voxel, and its ratio to that of each other way: above 1 the library is slower.
+ * time of one call, of one voxel or of one piece, and its ratio to that of each other way: above 1 the library is slower.
  *
- * The plain C is plain.c, which judges the same rules and gives the same answers; before anything is timed, both are asked of
- * 200,000 files with bytes changed at random, and the run stops where they differ. Beside the calls that only read stand a copy
- * and a move of the bytes that reading looks at (header, extender, extensions); beside a swap of 64 MiB a copy and a move of the
- * image; beside an append and a removal that slide 64 MiB a copy and a move of these, the move by the same distance.
+ * The plain C (plain.h) judges the same rules and gives the same answers; before anything is timed, both are asked of 200,000
+ * files with bytes changed at random, and the run stops where they differ. Beside the calls that only read stand a copy and a move
+ * of the bytes that reading looks at (header, extender, extensions); beside a swap of 64 MiB a copy and a move of the image; beside
+ * an append and a removal that slide 64 MiB a copy and a move of these, the move by the same distance.
  *
  * The rows of 1000 voxels time one call of the crate voxel_run, which locates the first 1000 of axis 1 and answers the farthest
  * place, and have the time of one voxel. By record the call reads the file once, by file for each voxel. Beside both stand a copy
  * and a move of each voxel's bytes. Beside the row by file stands plain C that reads for each voxel too; beside the row by record a
  * plain C loop over what was read before the timing, so that the compiler takes the tests of the other indexes, all 0, out of it.
+ *
+ * The rows in pieces feed a file from a start, the state passed by value and kept by the caller, and ask what it is: of 64 MiB in
+ * pieces of 256 bytes, nearly all of them voxels, the time of one piece; of a small file the time of it all. Beside them stand a
+ * copy and a move of each piece, and beside the small file also the library's reading of the whole.
  */
 #define _POSIX_C_SOURCE 200809L
 #include "../tests/nifti.h"
@@ -30,6 +34,9 @@ enum { SMALL_ROUNDS = 400, SMALL_CALLS = 4000, LARGE_ROUNDS = 8, IMAGE = 64 << 2
 
 /* The voxels that one call locates, and the calls of a round. */
 enum { VOXELS = 1000, VOXEL_CALLS = 5 };
+
+/* The bytes that the bridge delivers at a time, and the files of a round that come so. */
+enum { PIECE = 256, PIECE_CALLS = 400 };
 
 /* The crate voxel_run: the farthest place among the first `count` voxels of axis 1. */
 uint64_t voxel_run_by_record(const uint8_t *file, size_t file_len, uint64_t count);
@@ -51,16 +58,16 @@ static double now(void)
     return t.tv_sec * 1e9 + t.tv_nsec;
 }
 
-/* The four ways of a row: the library, memcpy, memmove, plain C. */
+/* The ways of a row; the last, of a file in pieces alone, is the library's reading of the whole. */
 typedef void way(void);
 
-enum { WAYS = 4 };
+enum { LIBRARY, MEMCPY, MEMMOVE, PLAIN, WHOLE, WAYS };
 
 static void print_row(const char *name, const char *input, const double best[WAYS])
 {
-    printf("%-15s %-26s %14.1f", name, input, best[0]);
-    for (int w = 1; w < WAYS; w++)
-        best[w] < INFINITY ? printf(" %9.2f", best[0] / best[w]) : printf(" %9s", "-");
+    printf("%-15s %-26s %14.1f", name, input, best[LIBRARY]);
+    for (int w = MEMCPY; w < WAYS; w++)
+        best[w] < INFINITY ? printf(" %9.2f", best[LIBRARY] / best[w]) : printf(" %9s", "-");
     printf("\n");
     fflush(stdout);
 }
@@ -68,7 +75,7 @@ static void print_row(const char *name, const char *input, const double best[WAY
 /* A call of a way does `parts` of what the row gives the time of. */
 static void row(const char *name, const char *input, way *const ways[WAYS], int rounds, int calls, int parts)
 {
-    double best[WAYS] = {INFINITY, INFINITY, INFINITY, INFINITY};
+    double best[WAYS] = {INFINITY, INFINITY, INFINITY, INFINITY, INFINITY};
     for (int round = 0; round < rounds; round++)
         for (int w = 0; w < WAYS; w++) {
             if (!ways[w])
@@ -275,7 +282,7 @@ static void voxel_rows(int extensions)
     looked_at = 352 + 32 * extensions;
     read_before = plain_read(work, file_len);
     for (int by_file = 0; by_file < 2; by_file++) {
-        for (int w = 0; w < WAYS; w += WAYS - 1) { /* the library and plain C */
+        for (int w = LIBRARY; w <= PLAIN; w += PLAIN - LIBRARY) {
             ways[by_file][w]();
             if (sink != looked_at + unit * (VOXELS - 1))
                 fail("another place is answered for the farthest voxel");
@@ -340,7 +347,7 @@ static void slide_rows(void)
         int removal = round % 2;
         slid_from = removal ? 384 : 352;
         slid_to = removal ? 352 : 384;
-        for (int w = 0; w < WAYS; w++) {
+        for (int w = LIBRARY; w <= PLAIN; w++) {
             double start = now();
             ways[removal][w]();
             double took = now() - start;
@@ -350,6 +357,60 @@ static void slide_rows(void)
     }
     for (int removal = 0; removal < 2; removal++)
         print_row(removal ? "remove" : "append", "32 bytes, 64 MiB slide", best[removal]);
+}
+
+static size_t piece_len;
+
+static size_t piece_at(size_t at)
+{
+    return file_len - at < piece_len ? file_len - at : piece_len;
+}
+
+/* A file from a start to its answer, by the library's calls or plain C's. */
+static inline __attribute__((always_inline)) void feed(vestumbral_pieces (*start)(void),
+                                                       vestumbral_taken (*take)(vestumbral_pieces, const uint8_t *, size_t),
+                                                       vestumbral_file (*file)(vestumbral_pieces))
+{
+    vestumbral_pieces pieces = start();
+    for (size_t at = 0; at < file_len; at += piece_len) {
+        vestumbral_taken taken = take(pieces, work + at, piece_at(at));
+        if (taken.refusal != 0)
+            fail("a piece is refused");
+        pieces = taken.pieces;
+    }
+    sink = file(pieces).data_bytes;
+}
+
+static void pieces_library(void) { feed(vestumbral_pieces_start, vestumbral_pieces_take, vestumbral_pieces_file); }
+static void pieces_plain(void) { feed(plain_pieces_start, plain_pieces_take, plain_pieces_file); }
+
+static void pieces_copy(void)
+{
+    for (size_t at = 0; at < file_len; at += piece_len)
+        memcpy(copy + at, work + at, piece_at(at));
+    sink = copy[file_len - 1];
+}
+
+static void pieces_move(void)
+{
+    for (size_t at = 0; at < file_len; at += piece_len)
+        memmove(copy + at + 16, copy + at, piece_at(at));
+    sink = copy[file_len - 1];
+}
+
+static void piece_rows(void)
+{
+    static const int small[4] = {3, 3, 2, 4}, large[4] = {3, 1024, 1024, 64};
+    static way *const ways[WAYS] = {pieces_library, pieces_copy, pieces_move, pieces_plain, read_library};
+    file_len = make(64, small, 4, 16);
+    piece_len = PIECE;
+    row("file in pieces", "64 extensions, by 256", ways, SMALL_ROUNDS, PIECE_CALLS, 1);
+    piece_len = file_len;
+    row("file in pieces", "64 extensions, in one", ways, SMALL_ROUNDS, PIECE_CALLS, 1);
+    static way *const skipping[WAYS] = {pieces_library, pieces_copy, pieces_move, pieces_plain};
+    file_len = make(0, large, 2, 8);
+    piece_len = PIECE;
+    row("piece of 256", "64 MiB", skipping, LARGE_ROUNDS, 1, (file_len + PIECE - 1) / PIECE);
 }
 
 static uint32_t seed = 12345;
@@ -368,6 +429,22 @@ static void same_replies(vestumbral_reply a, vestumbral_reply b)
         fail("plain C gives another reply");
 }
 
+/* The same pieces of a file, taken by the library and by plain C. */
+static void compare_pieces(size_t length, uint64_t n)
+{
+    vestumbral_pieces a = vestumbral_pieces_start(), b = plain_pieces_start();
+    for (size_t at = 0, more; at < length; at += more) {
+        more = chance(3) == 0 ? chance(20) : chance(600);
+        more = more < length - at ? more : length - at;
+        a = vestumbral_pieces_take(a, work + at, more).pieces;
+        b = plain_pieces_take(b, work + at, more).pieces;
+    }
+    vestumbral_file f = vestumbral_pieces_file(a), g = plain_pieces_file(b);
+    vestumbral_extension x = vestumbral_pieces_extension_at(a, n), y = plain_pieces_extension_at(b, n);
+    if (memcmp(&f, &g, sizeof f) != 0 || memcmp(&x, &y, sizeof x) != 0)
+        fail("plain C reads another file or extension in pieces");
+}
+
 /* Each reading call of a file, and then each that changes it in turn, by the library and by plain C. */
 static void compare_calls(size_t length)
 {
@@ -382,6 +459,7 @@ static void compare_calls(size_t length)
     vestumbral_position p = vestumbral_position_of(work, length, i, j, k), q = plain_position_of(work, length, i, j, k);
     if (memcmp(&f, &g, sizeof f) != 0 || memcmp(&x, &y, sizeof x) != 0)
         fail("plain C reads another file or extension");
+    compare_pieces(length, n);
     if (s.refusal != t.refusal || s.place != t.place || s.state != t.state || s.rank != t.rank || s.seconds != t.seconds)
         fail("plain C answers another slice");
     if (p.refusal != q.refusal || p.place != q.place || p.x != q.x || p.y != q.y || p.z != q.z)
@@ -440,10 +518,10 @@ int main(void)
         fail("no memory");
     fill();
     compare();
-    printf("ns of one call (of one voxel where %d are located), best of %d rounds (%d for 64 MiB), buffers written first\n", VOXELS,
-           SMALL_ROUNDS, LARGE_ROUNDS);
+    printf("ns of one call (of one voxel where %d are located, of one piece of 64 MiB), best of %d rounds (%d for 64 MiB), "
+           "buffers written first\n", VOXELS, SMALL_ROUNDS, LARGE_ROUNDS);
     printf("a ratio is the library's time over the other's\n");
-    printf("%-15s %-26s %14s %9s %9s %9s\n", "call", "input", "ns", "/memcpy", "/memmove", "/plain C");
+    printf("%-15s %-26s %14s %9s %9s %9s %9s\n", "call", "input", "ns", "/memcpy", "/memmove", "/plain C", "/read");
     static const int counts[4] = {0, 1, 8, 64};
     for (int big = 0; big < 2; big++)
         for (int i = 0; i < 4; i++)
@@ -453,6 +531,7 @@ int main(void)
     fill();
     swap_rows();
     slide_rows();
+    piece_rows();
     free(work);
     free(other);
     free(copy);

@@ -1,4 +1,7 @@
-/* The library's nine calls written plainly in C (plain.c): same arguments, same answers, same bytes left in every buffer. */
+/*
+ * The library's thirteen calls written plainly in C (plain.c, and plain_pieces.c for the last four): same arguments, same answers,
+ * same bytes left in every buffer.
+ */
 #ifndef BENCH_PLAIN_H
 #define BENCH_PLAIN_H
 
@@ -16,5 +19,9 @@ vestumbral_reply plain_append(uint8_t *buffer, size_t buffer_len, uint64_t file_
 vestumbral_reply plain_replace(uint8_t *buffer, size_t buffer_len, uint64_t file_len, uint64_t number,
                                int32_t code, const uint8_t *payload, size_t payload_len);
 vestumbral_reply plain_remove(uint8_t *buffer, size_t buffer_len, uint64_t file_len, uint64_t number);
+vestumbral_pieces plain_pieces_start(void);
+vestumbral_taken plain_pieces_take(vestumbral_pieces pieces, const uint8_t *piece, size_t piece_len);
+vestumbral_file plain_pieces_file(vestumbral_pieces pieces);
+vestumbral_extension plain_pieces_extension_at(vestumbral_pieces pieces, uint64_t number);
 
 #endif
