@@ -6,9 +6,9 @@ use mathlib.Core.List.{List}
 use Rattle.field.specs.Numbers.{joined}
 use Rattle.reader.specs.Reading.{readingOf}
 use Rattle.answers.specs.Answers.{fileAnswer, extensionAnswer}
-use Rattle.piece_reader.specs.Pieces.{fresh}
+use Rattle.pieces.specs.Pieces.{fresh}
 use Rattle.piece_reader.specs.Answer.{answerOf}
-use Rattle.piece_reader.specs.Feeding.{afterAll, takenFrom}
+use Rattle.pieces.specs.Feeding.{afterAll, takenFrom}
 use Rattle.piece_reader.proofs.Theorems.{pieces-read}
 
 module _ (ps : List (List ℕ)) where

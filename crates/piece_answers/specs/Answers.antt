@@ -2,8 +2,8 @@
 -- hands it back. What the state answers as a file is a struct of the crate answers.
 use Rattle.refusal.specs.declared.Verdict.{Verdict}
 use Rattle.refusal.specs.Table.{decided}
-use Rattle.piece_reader.specs.declared.Pieces.{Pieces}
-use Rattle.piece_reader.specs.declared.Taken.{Taken}
+use Rattle.pieces.specs.declared.Pieces.{Pieces}
+use Rattle.pieces.specs.declared.Taken.{Taken}
 use Rattle.piece_answers.specs.declared.TakenAnswer.{TakenAnswer}
 
 abbrev pub answered : Verdict → Pieces → TakenAnswer

@@ -6,7 +6,7 @@ ghost use Rattle.extension.specs.Walk.{extensionLimit};
 ghost use Rattle.answers.specs.Answers.{shownFile, fileAnswer, extensionShown, extensionAnswer};
 ghost use Rattle.extension.specs.Listing.{noSpan};
 ghost use lib.ListN.{getD};
-ghost use Rattle.piece_reader.specs.Pieces.{takenOf};
+ghost use Rattle.pieces.specs.Pieces.{takenOf};
 ghost use Rattle.piece_reader.specs.Answer.{answerOf};
 ghost use Rattle.piece_answers.specs.Answers.{takenAnswer};
 use answers::ExtensionAnswer;
@@ -14,7 +14,7 @@ use answers::FileAnswer;
 use extension::LIMIT;
 use extension::Span;
 use header::Header;
-use piece_reader::Pieces;
+use pieces::Pieces;
 use refusal::Refusal;
 use refusal::Verdict;
 use rules::Image;
@@ -74,7 +74,7 @@ fn shown_file(header: Header, image: Image) -> FileAnswer
 pub fn file_answer(pieces: Pieces) -> FileAnswer
     ensures { λ a. ⌜ a ≡ fileAnswer (answerOf pieces) ⌝ }
 {
-    let reading = pieces.answer();
+    let reading = piece_reader::answer(pieces);
     let verdict = reading.verdict;
     match verdict {
         Verdict::Accepted => {
@@ -111,7 +111,7 @@ fn shown_extension(count: usize, spans: [Span; LIMIT], number: u64) -> Extension
 pub fn extension_answer(pieces: Pieces, number: u64) -> ExtensionAnswer
     ensures { λ a. ⌜ a ≡ extensionAnswer (answerOf pieces) number ⌝ }
 {
-    let reading = pieces.answer();
+    let reading = piece_reader::answer(pieces);
     let verdict = reading.verdict;
     match verdict {
         Verdict::Accepted => {

@@ -1,7 +1,7 @@
 // Lists the NIfTI-1 file that is on standard input, of any length, as it comes: at most 256 bytes are read at a time, and
 // none is kept but what the piece reader keeps (02-change-requests.md, P1).
 use libc::STDIN_FILENO;
-use piece_reader::Pieces;
+use pieces::Pieces;
 use refusal::Verdict;
 
 // A read that fails is not the end of the file: nothing is listed then.
@@ -16,7 +16,7 @@ fn main() {
         }
         let n = io::count(got, &buffer);
         if n == 0 {
-            listing_print::put_reading(pieces.answer());
+            listing_print::put_reading(piece_reader::answer(pieces));
             return;
         }
         let taken = pieces.take(&buffer[..n]);

@@ -38,11 +38,11 @@ use Rattle.reader.proofs.File.{Rules, clear-rules}
 use Rattle.piece_walk.specs.Walking.{stepBy, walkerOf}
 use Rattle.piece_walk.specs.Whole.{wholeFrom, placeAfter, walkOf}
 use Rattle.piece_walk.proofs.Standing.{step-same, few-whole, standing-listed, standing-stopped, standing-still}
-use Rattle.piece_reader.specs.declared.Pieces.{Pieces}
-use Rattle.piece_reader.specs.Pieces.{totalLimit, endBy, endIn}
+use Rattle.pieces.specs.declared.Pieces.{Pieces}
+use Rattle.pieces.specs.Pieces.{totalLimit, endBy, endIn}
 use Rattle.piece_reader.specs.Answer.{endedBy, listedBy, answerBy, answerOf}
-use Rattle.piece_reader.specs.Kept.{frontOf, keptOf}
-use Rattle.piece_reader.proofs.Fronts.{order-front, extensions-front, end-front, checked-front, header-front}
+use Rattle.pieces.specs.Kept.{frontOf, keptOf}
+use Rattle.pieces.proofs.Fronts.{order-front, extensions-front, end-front, checked-front, header-front}
 
 -- a region that ends with the file may as well end anywhere after it
 to-the-end : (order : Order) (b : List ℕ) (n : ℕ) → length b ≤ n → extensionsIn order (length b) b ≡ extensionsIn order n b

@@ -15,8 +15,8 @@ use Rattle.reader.specs.declared.Reading.{Reading}
 use Rattle.reader.specs.Reading.{acceptedWith, refusedWith}
 use Rattle.piece_walk.specs.declared.Walk.{Walk}
 use Rattle.piece_walk.specs.Walking.{stepBy, walkerOf}
-use Rattle.piece_reader.specs.declared.Pieces.{Pieces}
-use Rattle.piece_reader.specs.Pieces.{endIn}
+use Rattle.pieces.specs.declared.Pieces.{Pieces}
+use Rattle.pieces.specs.Pieces.{endIn}
 
 -- A state from a fresh start never stands before an extension that has come whole, nor has it passed more than the limit. "any other
 -- state is yours to answer": it is answered as if it stood at the end, with a count up to the limit.

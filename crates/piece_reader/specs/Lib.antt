@@ -1,4 +1,1 @@
-pub mod Pieces
 pub mod Answer
-pub mod Feeding
-pub mod Kept

@@ -1,134 +1,18 @@
-// Reading a file that comes in pieces of any length (02-change-requests.md, P1). Kept are its first 352 bytes, the spans
-// of the extensions that have come whole and the first eight bytes of the next one; payload and voxels are skipped. The
-// state is a value, and any state gets an answer.
+// The reading of a file that comes in pieces (02-change-requests.md, P1): "However the file is cut, its answer is that of
+// the whole-file reader on the joined bytes, place included." Rules 1 to 12 are judged by the first 352 bytes and the
+// length, and rules 13 to 15 by what stands where the walk has come to. Any state gets an answer.
 ghost use mathlib.Core.Path.{_≡_};
-ghost use Prim.Native.Nat.{_+_, _≤_};
+ghost use Prim.Native.Nat.{_≤_};
 ghost use lib.ListN.{length};
-ghost use Rattle.layout.specs.File.{orderOf};
-ghost use Rattle.piece_reader.specs.Pieces.{passesTotal, frontWith, endBy, endIn, isSkipped, readOn, fresh, takenOf};
 ghost use Rattle.piece_reader.specs.Answer.{listedBy, answerOf};
 use extension::LIMIT;
 use extension::Step;
 use extension::Walker;
-use field::Order;
-use header::Kind;
 use layout::Checked;
 use layout::Layout;
-use offset::Offset;
 use piece_walk::Walk;
+use pieces::Pieces;
 use reader::Reading;
-use refusal::Refusal;
-use refusal::Verdict;
-
-// The most bytes that are taken in all.
-const TOTAL: usize = 2199023255552;
-
-// What is kept of a file between two pieces: how many bytes came, the first 352 of them, and the walk over the extensions.
-#[repr(C)]
-pub struct Pieces {
-    pub taken: usize,
-    pub front: [u8; 352],
-    pub walk: Walk,
-}
-
-// What a piece leaves: a verdict, and the state, which a refusal leaves as it was.
-pub struct Taken {
-    pub verdict: Verdict,
-    pub pieces: Pieces,
-}
-
-// Whether a piece would pass the total. No sum is made, so none can wrap.
-fn passes_total(taken: usize, len: usize) -> bool
-    ensures { λ r. ⌜ r ≡ passesTotal taken len ⌝ }
-{
-    if TOTAL < taken {
-        return true;
-    }
-    TOTAL - taken < len
-}
-
-// The first 352 bytes, with those that a piece brings.
-fn front_with(old: [u8; 352], taken: usize, piece: &[u8]) -> [u8; 352]
-    ensures { λ r. ⌜ r ≡ frontWith old taken (now (piece .entry)) ⌝ }
-{
-    if 352 <= taken {
-        return old;
-    }
-    let n = number::lesser(352 - taken, piece.len());
-    let mut out = old;
-    buffer::copy_in(&mut out, taken, &piece[..n]);
-    out
-}
-
-// The byte order, by dim[0].
-fn order_of(front: &[u8]) -> Order
-    requires { ⌜ 348 ≤ length (now front) ⌝ }
-    ensures { λ r. ⌜ r ≡ orderOf (now (front .entry)) ⌝ }
-{
-    if layout::holds_in(front, Order::Little) {
-        Order::Little
-    } else {
-        Order::Big
-    }
-}
-
-// Where a file's extensions end at the latest, by its kind and offset.
-fn end_by(kind: Kind, offset: Offset) -> usize
-    ensures { λ r. ⌜ r ≡ endBy kind offset ⌝ }
-{
-    match kind {
-        Kind::Pair => TOTAL,
-        Kind::Single => match offset {
-            Offset::Whole(at) => at as usize,
-            Offset::NotWhole => 0,
-            Offset::TooLarge => 0,
-        },
-    }
-}
-
-fn end_in(front: &[u8], order: Order) -> usize
-    requires { ⌜ 348 ≤ length (now front) ⌝ }
-    ensures { λ r. ⌜ r ≡ endIn order (now (front .entry)) ⌝ }
-{
-    if !layout::has_extensions(front) {
-        return 0;
-    }
-    end_by(
-        layout::kind_of(front),
-        offset::decode(field::read_u32(front, 108, order)),
-    )
-}
-
-// Whether a piece has payload or voxels alone: the first 352 bytes have come, and it begins behind the region of the
-// extensions or ends before the next one.
-fn is_skipped(front: &[u8], at: usize, taken: usize, total: usize) -> bool
-    requires { ⌜ 348 ≤ length (now front) ⌝ }
-    ensures { λ r. ⌜ r ≡ isSkipped (now (front .entry)) at taken total ⌝ }
-{
-    if taken < 352 {
-        return false;
-    }
-    (end_in(front, order_of(front)) <= taken) | (total <= at)
-}
-
-// The state with a piece that is not skipped.
-fn read_on(pieces: Pieces, piece: &[u8]) -> Pieces
-    requires { ⌜ pieces .taken + length (now piece) ≤ 2199023255552 ⌝ }
-    ensures { λ r. ⌜ r ≡ readOn pieces (now (piece .entry)) ⌝ }
-{
-    let taken = pieces.taken;
-    let old = pieces.front;
-    let front = front_with(old, taken, piece);
-    let order = order_of(&front);
-    let end = end_in(&front, order);
-    let before = pieces.walk;
-    let walk = piece_walk::walk_on(order, end, before, taken, piece);
-    Pieces {
-        taken: taken + piece.len(),
-        front,
-        walk,
-    }
-}
 
 // Rules 13 to 15 of what stands where the walk has come to, now that the length is known; where they pass, the record.
 fn listed(front: &[u8], layout: Layout, taken: usize, walk: Walk) -> Reading
@@ -141,7 +25,7 @@ fn listed(front: &[u8], layout: Layout, taken: usize, walk: Walk) -> Reading
     let order = layout.order;
     let walker = Walker {
         order,
-        end: end_in(front, order),
+        end: pieces::end_in(front, order),
         at: walk.at,
         count: walk.count,
     };
@@ -156,68 +40,17 @@ fn listed(front: &[u8], layout: Layout, taken: usize, walk: Walk) -> Reading
     }
 }
 
-impl Pieces {
-    // The state before the first piece.
-    pub fn start() -> Self
-        ensures { λ r. ⌜ r ≡ fresh ⌝ }
-    {
-        Self {
-            taken: 0,
-            front: [0u8; 352],
-            walk: Walk {
-                at: 352,
-                count: 0,
-                coming: [0u8; 8],
-                spans: listing::no_spans(),
-            },
-        }
-    }
-
-    // The state with a piece; or 25, and the state as it was.
-    pub fn take(self, piece: &[u8]) -> Taken
-        ensures { λ r. ⌜ r ≡ takenOf self (now (piece .entry)) ⌝ }
-    {
-        let taken = self.taken;
-        if passes_total(taken, piece.len()) {
-            return Taken {
-                verdict: Verdict::Refused(Refusal {
-                    number: 25,
-                    place: 0,
-                }),
-                pieces: self,
-            };
-        }
-        let front = self.front;
-        let total = taken + piece.len();
-        if is_skipped(&front, self.walk.at, taken, total) {
-            let walk = self.walk;
-            return Taken {
-                verdict: Verdict::Accepted,
-                pieces: Pieces {
-                    taken: total,
-                    front,
-                    walk,
-                },
-            };
-        }
-        Taken {
-            verdict: Verdict::Accepted,
-            pieces: read_on(self, piece),
-        }
-    }
-
-    // The reading of the bytes so far. The state may be fed on.
-    pub fn answer(self) -> Reading
-        ensures { λ r. ⌜ r ≡ answerOf self ⌝ }
-    {
-        let front = self.front;
-        let checked = layout::check_in(&front, self.taken);
-        match checked {
-            Checked::Breaks(r) => reader::refused(r),
-            Checked::Fits(layout) => {
-                let walk = self.walk;
-                listed(&front, layout, self.taken, walk)
-            }
+// The reading of the bytes so far. The state may be fed on.
+pub fn answer(pieces: Pieces) -> Reading
+    ensures { λ r. ⌜ r ≡ answerOf pieces ⌝ }
+{
+    let front = pieces.front;
+    let checked = layout::check_in(&front, pieces.taken);
+    match checked {
+        Checked::Breaks(r) => reader::refused(r),
+        Checked::Fits(layout) => {
+            let walk = pieces.walk;
+            listed(&front, layout, pieces.taken, walk)
         }
     }
 }

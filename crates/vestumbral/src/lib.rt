@@ -12,7 +12,7 @@ ghost use Rattle.change.specs.declared.Change.the-variants.{Append, Replace, Re
 ghost use Rattle.edit.specs.Outcome.{outcomeOf, editAnswer, bufferAfter};
 ghost use Rattle.answers.specs.Answers.{voxelReply, swapReply, editReply, fileAnswer, extensionAnswer, sliceAnswer};
 ghost use Rattle.answers.specs.Answers.{positionAnswer};
-ghost use Rattle.piece_reader.specs.Pieces.{fresh, takenOf};
+ghost use Rattle.pieces.specs.Pieces.{fresh, takenOf};
 ghost use Rattle.piece_reader.specs.Answer.{answerOf};
 ghost use Rattle.piece_answers.specs.Answers.{takenAnswer};
 use answers::ExtensionAnswer;
@@ -22,7 +22,7 @@ use answers::Reply;
 use answers::SliceAnswer;
 use outline::Outlined;
 use piece_answers::TakenAnswer;
-use piece_reader::Pieces;
+use pieces::Pieces;
 
 // Reads a file: what it shows of the record, or the refusal, 1 to 15.
 #[no_mangle]

@@ -4,9 +4,9 @@ use mathlib.Core.Path.{_≡_, sym, ap, _∙_}
 use native.Mathlib.Omega.{arith}
 use borrow.Author.Needs.{needs}
 use lib.ListN.{length}
-use Rattle.piece_reader.specs.declared.Taken.{Taken}
-use Rattle.piece_reader.specs.Pieces.{totalLimit}
-use Rattle.piece_reader.proofs.Theorems.{accepted-taken}
+use Rattle.pieces.specs.declared.Taken.{Taken}
+use Rattle.pieces.specs.Pieces.{totalLimit}
+use Rattle.pieces.proofs.Theorems.{accepted-taken}
 use Rattle.piece_list.proofs.main.Statement.{statement}
 use Rattle.piece_list.proofs.main.Tie as tie
 use Rattle.piece_list.proofs.main.Reads as reads
@@ -16,9 +16,9 @@ use Rattle.libc.proofs.read.Reads as read-reads
 use Rattle.listing_print.proofs.put.Reads as put-reads
 use Rattle.listing_print.proofs.put_reading.Reads as put-reading-reads
 use Rattle.listing_print.proofs.put_refusal.Reads as put-refusal-reads
-use Rattle.piece_reader.proofs.Pieces.answer.Reads as answer-reads
-use Rattle.piece_reader.proofs.Pieces.start.Reads as start-reads
-use Rattle.piece_reader.proofs.Pieces.take.Reads as take-reads
+use Rattle.piece_reader.proofs.answer.Reads as answer-reads
+use Rattle.pieces.proofs.Pieces.start.Reads as start-reads
+use Rattle.pieces.proofs.Pieces.take.Reads as take-reads
 
 abbrev Inv-loop : tie.InvT-loop
 Inv-loop pieces₀ buffer₀ t8 pieces buffer = length buffer ≡ 256

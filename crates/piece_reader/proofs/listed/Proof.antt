@@ -5,7 +5,7 @@ use borrow.Author.Tests.{not-true, not-false}
 use denote.Ref.{now}
 use Rattle.layout.specs.File.{hasExtensions}
 use Rattle.piece_walk.specs.Walking.{stepBy, walkerOf}
-use Rattle.piece_reader.specs.Pieces.{endIn}
+use Rattle.pieces.specs.Pieces.{endIn}
 use Rattle.piece_reader.specs.Answer.{listedBy}
 use borrow.Author.Needs.{needs}
 use Rattle.piece_reader.proofs.listed.Statement.{statement}
@@ -15,7 +15,7 @@ use Rattle.piece_reader.proofs.listed.Lts as lts
 use Rattle.layout.proofs.has_extensions.Reads as has-extensions-reads
 use Rattle.listing.proofs.no_spans.Reads as no-spans-reads
 use Rattle.number.proofs.lesser.Reads as lesser-reads
-use Rattle.piece_reader.proofs.end_in.Reads as end-in-reads
+use Rattle.pieces.proofs.end_in.Reads as end-in-reads
 use Rattle.piece_walk.proofs.step_by.Reads as step-by-reads
 use Rattle.reader.proofs.accepted.Reads as accepted-reads
 use Rattle.reader.proofs.refused.Reads as refused-reads

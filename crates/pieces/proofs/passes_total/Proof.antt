@@ -3,12 +3,12 @@ use Prim.Native.Nat.{_+_, _-_}
 use mathlib.Core.Path.{sym}
 use native.Mathlib.Omega.{arith}
 use borrow.Author.Tests.{lt-ltb}
-use Rattle.piece_reader.specs.Pieces.{totalLimit}
-use Rattle.piece_reader.proofs.Totals.{without-sum}
-use Rattle.piece_reader.proofs.passes_total.Statement.{statement}
-use Rattle.piece_reader.proofs.passes_total.Tie as tie
-use Rattle.piece_reader.proofs.passes_total.Reads as reads
-use Rattle.piece_reader.proofs.passes_total.Lts as lts
+use Rattle.pieces.specs.Pieces.{totalLimit}
+use Rattle.pieces.proofs.Totals.{without-sum}
+use Rattle.pieces.proofs.passes_total.Statement.{statement}
+use Rattle.pieces.proofs.passes_total.Tie as tie
+use Rattle.pieces.proofs.passes_total.Reads as reads
+use Rattle.pieces.proofs.passes_total.Lts as lts
 
 returns : tie.Need-returns
 returns c = let a = c .before .args in sym (lt-ltb totalLimit (a .taken + a .len) (omega arith))

@@ -4,14 +4,14 @@ use mathlib.Core.Bool.{_||_}
 use lib.Dec.{leb}
 use borrow.Author.Tests.{le-leb, lt-leb}
 use denote.Ref.{now}
-use Rattle.piece_reader.specs.Pieces.{frontLength, endIn}
+use Rattle.pieces.specs.Pieces.{frontLength, endIn}
 use borrow.Author.Needs.{needs}
-use Rattle.piece_reader.proofs.is_skipped.Statement.{statement}
-use Rattle.piece_reader.proofs.is_skipped.Tie as tie
-use Rattle.piece_reader.proofs.is_skipped.Reads as reads
-use Rattle.piece_reader.proofs.is_skipped.Lts as lts
-use Rattle.piece_reader.proofs.end_in.Reads as end-in-reads
-use Rattle.piece_reader.proofs.order_of.Reads as order-of-reads
+use Rattle.pieces.proofs.is_skipped.Statement.{statement}
+use Rattle.pieces.proofs.is_skipped.Tie as tie
+use Rattle.pieces.proofs.is_skipped.Reads as reads
+use Rattle.pieces.proofs.is_skipped.Lts as lts
+use Rattle.pieces.proofs.end_in.Reads as end-in-reads
+use Rattle.pieces.proofs.order_of.Reads as order-of-reads
 
 returns : tie.Need-returns
 returns c = rw (lt-leb frontLength (c .before .before .args .taken) (c .if1 .taken))

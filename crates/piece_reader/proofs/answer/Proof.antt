@@ -3,10 +3,10 @@ use mathlib.Core.Path.{sym, _∙_}
 use native.Mathlib.Omega.{arith}
 use Rattle.piece_reader.specs.Answer.{answerOf}
 use borrow.Author.Needs.{needs}
-use Rattle.piece_reader.proofs.Pieces.answer.Statement.{statement}
-use Rattle.piece_reader.proofs.Pieces.answer.Tie as tie
-use Rattle.piece_reader.proofs.Pieces.answer.Reads as reads
-use Rattle.piece_reader.proofs.Pieces.answer.Lts as lts
+use Rattle.piece_reader.proofs.answer.Statement.{statement}
+use Rattle.piece_reader.proofs.answer.Tie as tie
+use Rattle.piece_reader.proofs.answer.Reads as reads
+use Rattle.piece_reader.proofs.answer.Lts as lts
 use Rattle.layout.proofs.check_in.Reads as check-in-reads
 use Rattle.piece_reader.proofs.listed.Reads as listed-reads
 use Rattle.reader.proofs.refused.Reads as refused-reads

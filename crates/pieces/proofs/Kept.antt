@@ -17,10 +17,10 @@ use Rattle.piece_walk.specs.declared.Walk.{Walk}
 use Rattle.piece_walk.specs.Walking.{walkedOn}
 use Rattle.piece_walk.specs.Whole.{walkOf}
 use Rattle.piece_walk.proofs.Standing.{walk-nowhere, walked-first, walked-later, walk-behind, walk-before}
-use Rattle.piece_reader.specs.declared.Pieces.{Pieces}
-use Rattle.piece_reader.specs.Pieces.{frontLength, fresh, frontWith, endIn, walkWith, isSkipped, skippedBy, readOn, takenWith}
-use Rattle.piece_reader.specs.Kept.{frontOf, keptOf}
-use Rattle.piece_reader.proofs.Fronts.{no-front, front-kept, front-with}
+use Rattle.pieces.specs.declared.Pieces.{Pieces}
+use Rattle.pieces.specs.Pieces.{frontLength, fresh, frontWith, endIn, walkWith, isSkipped, skippedBy, readOn, takenWith}
+use Rattle.pieces.specs.Kept.{frontOf, keptOf}
+use Rattle.pieces.proofs.Fronts.{no-front, front-kept, front-with}
 
 module _ (b piece : List ℕ) where
   abbrev c : List ℕ

@@ -5,15 +5,15 @@ use denote.Ref.{now}
 use lib.ListN.{length}
 use Rattle.layout.specs.File.{orderOf}
 use Rattle.piece_walk.specs.Walking.{walkedOn}
-use Rattle.piece_reader.specs.Pieces.{endIn, walkWith, readOn}
+use Rattle.pieces.specs.Pieces.{endIn, walkWith, readOn}
 use borrow.Author.Needs.{needs}
-use Rattle.piece_reader.proofs.read_on.Statement.{statement}
-use Rattle.piece_reader.proofs.read_on.Tie as tie
-use Rattle.piece_reader.proofs.read_on.Reads as reads
-use Rattle.piece_reader.proofs.read_on.Lts as lts
-use Rattle.piece_reader.proofs.end_in.Reads as end-in-reads
-use Rattle.piece_reader.proofs.front_with.Reads as front-with-reads
-use Rattle.piece_reader.proofs.order_of.Reads as order-of-reads
+use Rattle.pieces.proofs.read_on.Statement.{statement}
+use Rattle.pieces.proofs.read_on.Tie as tie
+use Rattle.pieces.proofs.read_on.Reads as reads
+use Rattle.pieces.proofs.read_on.Lts as lts
+use Rattle.pieces.proofs.end_in.Reads as end-in-reads
+use Rattle.pieces.proofs.front_with.Reads as front-with-reads
+use Rattle.pieces.proofs.order_of.Reads as order-of-reads
 use Rattle.piece_walk.proofs.walk_on.Reads as walk-on-reads
 
 front-with-requires : tie.Need-front-with-requires

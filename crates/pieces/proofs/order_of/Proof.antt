@@ -2,10 +2,10 @@
 use mathlib.Core.Path.{sym, _∙_}
 use Rattle.layout.specs.File.{orderOf}
 use borrow.Author.Needs.{needs}
-use Rattle.piece_reader.proofs.order_of.Statement.{statement}
-use Rattle.piece_reader.proofs.order_of.Tie as tie
-use Rattle.piece_reader.proofs.order_of.Reads as reads
-use Rattle.piece_reader.proofs.order_of.Lts as lts
+use Rattle.pieces.proofs.order_of.Statement.{statement}
+use Rattle.pieces.proofs.order_of.Tie as tie
+use Rattle.pieces.proofs.order_of.Reads as reads
+use Rattle.pieces.proofs.order_of.Lts as lts
 use Rattle.layout.proofs.holds_in.Reads as holds-in-reads
 
 holds-in-requires : tie.Need-holds-in-requires

@@ -20,8 +20,8 @@ use Rattle.header.specs.declared.Kind.the-variants.{Single, Pair}
 use Rattle.layout.specs.File.{orderOf, kindOf, hasExtensions}
 use Rattle.piece_walk.specs.declared.Walk.{Walk}
 use Rattle.piece_walk.specs.Walking.{walkedOn}
-use Rattle.piece_reader.specs.declared.Pieces.{Pieces}
-use Rattle.piece_reader.specs.declared.Taken.{Taken}
+use Rattle.pieces.specs.declared.Pieces.{Pieces}
+use Rattle.pieces.specs.declared.Taken.{Taken}
 
 -- "At most 2,199,023,255,552 bytes in all."
 abbrev pub totalLimit : ℕ

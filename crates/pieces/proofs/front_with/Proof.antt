@@ -6,13 +6,13 @@ use denote.Ref.{now}
 use lib.ListN.{length, take}
 use lib.Seq.{length-take-le}
 use Rattle.buffer.specs.Put.{put}
-use Rattle.piece_reader.specs.Pieces.{frontWith}
-use Rattle.piece_reader.proofs.Fronts.{front-stays, take-lesser}
+use Rattle.pieces.specs.Pieces.{frontWith}
+use Rattle.pieces.proofs.Fronts.{front-stays, take-lesser}
 use borrow.Author.Needs.{needs}
-use Rattle.piece_reader.proofs.front_with.Statement.{statement}
-use Rattle.piece_reader.proofs.front_with.Tie as tie
-use Rattle.piece_reader.proofs.front_with.Reads as reads
-use Rattle.piece_reader.proofs.front_with.Lts as lts
+use Rattle.pieces.proofs.front_with.Statement.{statement}
+use Rattle.pieces.proofs.front_with.Tie as tie
+use Rattle.pieces.proofs.front_with.Reads as reads
+use Rattle.pieces.proofs.front_with.Lts as lts
 use Rattle.buffer.proofs.copy_in.Reads as copy-in-reads
 use Rattle.number.proofs.lesser.Reads as lesser-reads
 

@@ -15,9 +15,9 @@ use Rattle.offset.proofs.Answer.{whole-value}
 use Rattle.header.specs.declared.Kind.the-variants.{Single}
 use Rattle.layout.specs.File.{orderOf, kindOf, hasExtensions}
 use Rattle.piece_walk.specs.Whole.{walkOf}
-use Rattle.piece_reader.specs.Pieces.{endBy, endIn}
-use Rattle.piece_reader.specs.Kept.{frontOf, keptOf}
-use Rattle.piece_reader.proofs.Fronts.{order-front, end-front}
+use Rattle.pieces.specs.Pieces.{endBy, endIn}
+use Rattle.pieces.specs.Kept.{frontOf, keptOf}
+use Rattle.pieces.proofs.Fronts.{order-front, end-front}
 
 module _ (b : List ℕ) (single : kindOf b ≡ Single) where
   abbrev bits : ℕ

@@ -1,12 +1,12 @@
 -- `start` meets its contract.
 use lib.ListN.{replicate}
 use Rattle.extension.specs.Walk.{firstPlace}
-use Rattle.piece_reader.specs.Pieces.{frontLength, fresh}
+use Rattle.pieces.specs.Pieces.{frontLength, fresh}
 use borrow.Author.Needs.{needs}
-use Rattle.piece_reader.proofs.Pieces.start.Statement.{statement}
-use Rattle.piece_reader.proofs.Pieces.start.Tie as tie
-use Rattle.piece_reader.proofs.Pieces.start.Reads as reads
-use Rattle.piece_reader.proofs.Pieces.start.Lts as lts
+use Rattle.pieces.proofs.Pieces.start.Statement.{statement}
+use Rattle.pieces.proofs.Pieces.start.Tie as tie
+use Rattle.pieces.proofs.Pieces.start.Reads as reads
+use Rattle.pieces.proofs.Pieces.start.Lts as lts
 use Rattle.listing.proofs.no_spans.Reads as no-spans-reads
 
 no-spans-requires : tie.Need-no-spans-requires

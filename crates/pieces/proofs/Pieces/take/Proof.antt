@@ -7,15 +7,15 @@ use borrow.Author.Tests.{ltb-false}
 use denote.Ref.{now}
 use lib.ListN.{length}
 use Rattle.refusal.specs.declared.Verdict.the-variants.{Accepted}
-use Rattle.piece_reader.specs.Pieces.{totalLimit, passesTotal, isSkipped, skippedBy, readOn, takenWith, takenOf}
+use Rattle.pieces.specs.Pieces.{totalLimit, passesTotal, isSkipped, skippedBy, readOn, takenWith, takenOf}
 use borrow.Author.Needs.{needs}
-use Rattle.piece_reader.proofs.Pieces.take.Statement.{statement}
-use Rattle.piece_reader.proofs.Pieces.take.Tie as tie
-use Rattle.piece_reader.proofs.Pieces.take.Reads as reads
-use Rattle.piece_reader.proofs.Pieces.take.Lts as lts
-use Rattle.piece_reader.proofs.is_skipped.Reads as is-skipped-reads
-use Rattle.piece_reader.proofs.passes_total.Reads as passes-total-reads
-use Rattle.piece_reader.proofs.read_on.Reads as read-on-reads
+use Rattle.pieces.proofs.Pieces.take.Statement.{statement}
+use Rattle.pieces.proofs.Pieces.take.Tie as tie
+use Rattle.pieces.proofs.Pieces.take.Reads as reads
+use Rattle.pieces.proofs.Pieces.take.Lts as lts
+use Rattle.pieces.proofs.is_skipped.Reads as is-skipped-reads
+use Rattle.pieces.proofs.passes_total.Reads as passes-total-reads
+use Rattle.pieces.proofs.read_on.Reads as read-on-reads
 
 passes-total-requires : tie.Need-passes-total-requires
 passes-total-requires c κs = search needs

@@ -17,8 +17,8 @@ use Rattle.extension.specs.declared.Span.{Span}
 use Rattle.header.specs.declared.Kind.{Kind}
 use Rattle.header.specs.Fields.{headerOf}
 use Rattle.layout.specs.File.{holdsIn, orderOf, hasMagic, kindOf, shapeIn, hasNone, hasExtensions, checkedIn}
-use Rattle.piece_reader.specs.Pieces.{frontLength, frontWith, endIn}
-use Rattle.piece_reader.specs.Kept.{frontOf}
+use Rattle.pieces.specs.Pieces.{frontLength, frontWith, endIn}
+use Rattle.pieces.specs.Kept.{frontOf}
 
 module _ (s : List ℕ) where
   pub order-front : orderOf (frontOf s) ≡ orderOf s

@@ -7,8 +7,8 @@ use lib.ListN.{length}
 use Rattle.field.specs.Numbers.{bytesAt}
 use Rattle.layout.specs.File.{orderOf}
 use Rattle.piece_walk.specs.Whole.{walkOf}
-use Rattle.piece_reader.specs.declared.Pieces.{Pieces}
-use Rattle.piece_reader.specs.Pieces.{frontLength, endIn}
+use Rattle.pieces.specs.declared.Pieces.{Pieces}
+use Rattle.pieces.specs.Pieces.{frontLength, endIn}
 
 -- with zeros where fewer have come
 unfoldable pub frontOf : List ℕ → List ℕ
