@@ -145,19 +145,19 @@ impl Pieces {
         ensures { λ r. ⌜ r ≡ takenOf self (now (piece .entry)) ⌝ }
     {
         let taken = self.taken;
+        let front = self.front;
+        let walk = self.walk;
         if passes_total(taken, piece.len()) {
             return Taken {
                 verdict: Verdict::Refused(Refusal {
                     number: 25,
                     place: 0,
                 }),
-                pieces: self,
+                pieces: Pieces { taken, front, walk },
             };
         }
-        let front = self.front;
         let total = taken + piece.len();
-        if is_skipped(&front, self.walk.at, taken, total) {
-            let walk = self.walk;
+        if is_skipped(&front, walk.at, taken, total) {
             return Taken {
                 verdict: Verdict::Accepted,
                 pieces: Pieces {

@@ -25,14 +25,14 @@ unfolding takenOf
 returns c = rw (sym (c .before .passes-total .ensures) ∙ c .if1 .taken)
 
 -- past its test the piece fits
-fits : (c : tie.Else1) → let a = c .before .before .before .args in passesTotal (a .self .taken) (length (now (a .piece))) ≡ false
+fits : (c : tie.Else1) → let a = c .before .before .before .before .before .args in passesTotal (a .self .taken) (length (now (a .piece))) ≡ false
 fits c = sym (c .before .passes-total .ensures) ∙ c .if1 .left
 
-room : (c : tie.Else1) → let a = c .before .before .before .args in a .self .taken + length (now (a .piece)) ≤ totalLimit
+room : (c : tie.Else1) → let a = c .before .before .before .before .before .args in a .self .taken + length (now (a .piece)) ≤ totalLimit
 room c = ltb-false totalLimit _ (fits c)
 
 add-total : tie.Need-add-total
-add-total c = omega (arith, room (c .before))
+add-total c = omega (arith, room c)
 
 slice-aggregate-is-skipped : tie.Need-slice-aggregate-is-skipped
 slice-aggregate-is-skipped c = search needs
@@ -43,17 +43,17 @@ is-skipped-requires c κs = omega (arith, slice-aggregate-is-skipped c)
 returns-2 : tie.Need-returns-2
 unfolding takenOf takenWith
 returns-2 c =
-    let k = c .before .before in
-    rw (fits (k .before .before .before), sym (k .is-skipped .ensures) ∙ c .before .if2 .taken)
+    let k = c .before in
+    rw (fits (k .before .before), sym (k .is-skipped .ensures) ∙ c .if2 .taken)
 
 read-on-requires : tie.Need-read-on-requires
-read-on-requires c κs = room (c .before .before .before .before)
+read-on-requires c κs = room (c .before .before .before)
 
 returns-3 : tie.Need-returns-3
 unfolding takenOf takenWith
 returns-3 c =
     let k = c .before .before in
-    rw (fits (k .before .before .before), sym (k .is-skipped .ensures) ∙ c .before .if2 .left)
+    rw (fits (k .before .before), sym (k .is-skipped .ensures) ∙ c .before .if2 .left)
     (ap (λ s. record { verdict = Accepted; pieces = s }) (c .read-on .ensures))
 
 pub take-spec : {M : Type 1} → statement M
