@@ -39,9 +39,8 @@ static inline void move_on(vestumbral_pieces *p, const struct outline *o, uint64
         int32_t size = get32(p->coming, o->big), code = get32(p->coming + 4, o->big);
         if (p->count == MOST_EXTENSIONS || size < 16 || size % 16 != 0 || p->at + size > come || code < 0)
             return;
-        p->spans[p->count].start = p->at;
-        p->spans[p->count].size = size;
-        p->spans[p->count].code = code;
+        p->marks[p->count].size = size;
+        p->marks[p->count].code = code;
         p->count++;
         p->at += size;
         memset(p->coming, 0, sizeof p->coming);
@@ -85,6 +84,8 @@ vestumbral_extension plain_pieces_extension_at(vestumbral_pieces pieces, uint64_
         return (vestumbral_extension){.refusal = o.refusal, .place = o.place};
     if (number >= o.extensions)
         return (vestumbral_extension){.refusal = 18};
-    return (vestumbral_extension){.start = pieces.spans[number].start, .size = pieces.spans[number].size,
-                                  .code = pieces.spans[number].code};
+    uint64_t start = FIRST;
+    for (uint64_t i = 0; i < number; i++)
+        start += pieces.marks[i].size;
+    return (vestumbral_extension){.start = start, .size = pieces.marks[number].size, .code = pieces.marks[number].code};
 }

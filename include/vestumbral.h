@@ -107,7 +107,7 @@ typedef struct {
 
 /*
  * The state of reading a file in pieces, whatever the file's length. It is a value: copy it, keep it, hand it on. It has no payload
- * and no voxel byte. Its members are the library's own; they are declared so that C knows the size, 1408 bytes.
+ * and no voxel byte. Its members are the library's own; they are declared so that C knows the size, 896 bytes.
  */
 typedef struct {
     uint64_t taken;       /* bytes so far */
@@ -115,9 +115,8 @@ typedef struct {
     uint64_t at, count;   /* where the next extension begins, and how many came whole */
     uint8_t  coming[8];   /* its first eight bytes, as far as they have come */
     struct {
-        uint64_t start;
-        int32_t  size, code;
-    } spans[64];          /* the extensions that came whole */
+        int32_t size, code;
+    } marks[64];          /* of the extensions that came whole */
 } vestumbral_pieces;
 
 /* The answer of taking a piece. On a refusal `pieces` is the state that was handed in. */

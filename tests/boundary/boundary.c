@@ -17,9 +17,9 @@ _Static_assert(offsetof(vestumbral_file, datatype) == 56 && offsetof(vestumbral_
 _Static_assert(sizeof(vestumbral_extension) == 32 && offsetof(vestumbral_extension, code) == 28, "extension");
 _Static_assert(sizeof(vestumbral_slice) == 32 && offsetof(vestumbral_slice, seconds) == 24, "slice");
 _Static_assert(sizeof(vestumbral_position) == 32 && offsetof(vestumbral_position, z) == 24, "position");
-_Static_assert(sizeof(vestumbral_pieces) == 1408 && offsetof(vestumbral_pieces, at) == 360, "pieces");
-_Static_assert(offsetof(vestumbral_pieces, coming) == 376 && offsetof(vestumbral_pieces, spans[63].code) == 1404, "pieces");
-_Static_assert(sizeof(vestumbral_taken) == 1424 && offsetof(vestumbral_taken, pieces) == 16, "taken");
+_Static_assert(sizeof(vestumbral_pieces) == 896 && offsetof(vestumbral_pieces, at) == 360, "pieces");
+_Static_assert(offsetof(vestumbral_pieces, coming) == 376 && offsetof(vestumbral_pieces, marks[63].code) == 892, "pieces");
+_Static_assert(sizeof(vestumbral_taken) == 912 && offsetof(vestumbral_taken, pieces) == 16, "taken");
 
 static unsigned checks, failed;
 

@@ -518,7 +518,7 @@ fn pieces(random: &mut Random, file: &[u8]) -> Vec<Piece> {
     pieces
 }
 
-/// The words of a state of reading in pieces where its members begin, the spans after them.
+/// The words of a state of reading in pieces where its members begin, the marks after them.
 const TAKEN: usize = 0;
 const FRONT: usize = 1;
 const AT: usize = 45;

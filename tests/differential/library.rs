@@ -78,7 +78,7 @@ pub struct PositionAnswer {
 #[derive(Clone, Copy, PartialEq, Eq)]
 pub struct Pieces(pub [u64; STATE_WORDS]);
 
-pub const STATE_WORDS: usize = 176;
+pub const STATE_WORDS: usize = 112;
 
 #[repr(C)]
 #[derive(Clone, Copy)]

@@ -65,7 +65,7 @@ static uint8_t buffer[SMALL + 2 * PAYLOAD], payload[PAYLOAD], image[VOXELS];
 
 /* Answers by value have no padding, so their bytes can be told. */
 _Static_assert(sizeof(vestumbral_reply) == 24 && sizeof(vestumbral_file) == 64 && sizeof(vestumbral_extension) == 32, "padding");
-_Static_assert(sizeof(vestumbral_taken) == 1424, "padding");
+_Static_assert(sizeof(vestumbral_taken) == 912, "padding");
 
 static void look(size_t length)
 {

@@ -1,14 +1,14 @@
 -- What is kept of a walk: all spans, in a list that is filled (`list`), or the place of the one that is wanted (`scan`). What each step
 -- does to it.
-use Prim.Native.Nat.{ℕ, zero, suc, _+_, _-_, _<_, _≤_}
+use Prim.Native.Nat.{ℕ, zero, suc, _+_, _<_, _≤_}
 use mathlib.Core.Path.{_≡_, refl, sym, ap, _∙_}
 use mathlib.Core.Bool.{Bool, true, false}
 use mathlib.Core.List.{List, [], _∷_, _++_}
 use native.Mathlib.Omega.{arith}
 use borrow.Author.Tests.{eqb-true, eqb-false, eq-eqb, ne-eqb}
 use lib.Dec.{eqb}
-use lib.ListN.{length, getD, set, replicate, length-append}
-use lib.Seq.{set-append-seam, append-snoc}
+use lib.ListN.{length, getD, set}
+use Rattle.number.proofs.Lists.{fill-more}
 use Rattle.field.specs.declared.Order.{Order}
 use Rattle.field.specs.Numbers.{i32At}
 use Rattle.extension.specs.declared.Span.{Span}
@@ -24,11 +24,7 @@ use Rattle.listing.proofs.Passed.{Passed, pass-taken, pass-room, pass-t
 pub spans-more : (ys : List Span) (x : Span) → length ys < extensionLimit
     → set (spansOf ys) (length ys) x ≡ spansOf (ys ++ (x ∷ []))
 unfolding spansOf
-spans-more ys x h =
-    let l : length (ys ++ (x ∷ [])) ≡ length ys + 1 = length-append ys (x ∷ []) in
-    let m : extensionLimit - length ys ≡ suc (extensionLimit - (length ys + 1)) = omega arith in
-    let zeros = replicate (extensionLimit - (length ys + 1)) noSpan in
-    rw (l, m) (set-append-seam ys noSpan zeros x ∙ sym (append-snoc ys x zeros))
+spans-more ys x h = fill-more ys noSpan x extensionLimit h
 
 pub record Filled (all : Walked) (file : List ℕ) (w : Walker) (spans : List Span) : Type 0 where
   pub so-far : List Span

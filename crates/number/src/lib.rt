@@ -1,5 +1,5 @@
 // Small numbers' tools that several crates share: the lesser and the greater of two, their difference, and a signed
-// 16-bit number as a length.
+// number as a length.
 ghost use mathlib.Core.Path.{_≡_};
 ghost use Prim.Native.Nat.{_-_, _≤_, min, max};
 ghost use Rattle.number.specs.Natural.{naturalOf};
@@ -30,4 +30,10 @@ pub fn natural(z: i16) -> u64
     ensures { λ r. ⌜ (r ≡ naturalOf z) × (r ≤ 32767) ⌝ }
 {
     if z < 0 { 0 } else { z as u64 }
+}
+
+pub fn natural32(z: i32) -> usize
+    ensures { λ r. ⌜ (r ≡ naturalOf z) × (r ≤ 2147483647) ⌝ }
+{
+    if z < 0 { 0 } else { z as usize }
 }

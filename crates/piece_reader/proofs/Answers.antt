@@ -35,12 +35,13 @@ use Rattle.reader.specs.declared.Reading.{Reading}
 use Rattle.reader.specs.Reading.{extensionsOf, refusedWith, acceptedWith, readingOf}
 use Rattle.reader.proofs.Answers.{reads-broken, reads-refused, reads-accepted}
 use Rattle.reader.proofs.File.{Rules, clear-rules}
+use Rattle.piece_walk.specs.Marks.{marksOf}
 use Rattle.piece_walk.specs.Walking.{stepBy, walkerOf}
 use Rattle.piece_walk.specs.Whole.{wholeFrom, placeAfter, walkOf}
-use Rattle.piece_walk.proofs.Standing.{step-same, few-whole, standing-listed, standing-stopped, standing-still}
+use Rattle.piece_walk.proofs.Standing.{step-same, few-whole, standing-spans, standing-listed, standing-stopped, standing-still}
 use Rattle.pieces.specs.declared.Pieces.{Pieces}
 use Rattle.pieces.specs.Pieces.{totalLimit, endBy, endIn}
-use Rattle.piece_reader.specs.Answer.{endedBy, listedBy, answerBy, answerOf}
+use Rattle.piece_reader.specs.Answer.{endedBy, spansIn, listedBy, answerBy, answerOf}
 use Rattle.pieces.specs.Kept.{frontOf, keptOf}
 use Rattle.pieces.proofs.Fronts.{order-front, extensions-front, end-front, checked-front, header-front}
 
@@ -105,12 +106,14 @@ module _ (b : List ℕ) (l : Layout) (fits : checkedOf b ≡ Fits l) (room : len
   w = record { order = order; end = end; at = placeAfter firstPlace xs; count = length xs }
 
   abbrev all : Reading
-  all = acceptedWith (frontOf b) l (min (length xs) extensionLimit) (spansOf xs)
+  all = acceptedWith (frontOf b) l (min (length xs) extensionLimit) (spansIn (marksOf xs) (min (length xs) extensionLimit))
 
   all-is : all ≡ acceptedWith b l (length xs) (spansOf xs)
   all-is =
       let n : min (length xs) extensionLimit ≡ length xs = omega (arith, few-whole order end b) in
-      accepted-front (min (length xs) extensionLimit) (spansOf xs) ∙ (λ i. acceptedWith b l (n i) (spansOf xs))
+      accepted-front (min (length xs) extensionLimit) (spansIn (marksOf xs) (min (length xs) extensionLimit))
+      ∙ (λ i. acceptedWith b l (n i) (spansIn (marksOf xs) (n i)))
+      ∙ (λ i. acceptedWith b l (length xs) (spansOf (standing-spans order end b i)))
 
   by-step : hasExtensions b ≡ true → (u : Step) → stepOf b w ≡ u → endedBy u all ≡ readingOf b
   by-step has (Halt r) e = reads-halt r (walk-is has ∙ standing-stopped order end b r e)
@@ -148,7 +151,7 @@ answer-kept b room = rw (checked-front b (length b)) (by (checkedOf b) refl)
 -- of any state: the answer's count is within the limit
 module _ (s : Pieces) (l : Layout) where
   abbrev whole-list : Reading
-  whole-list = acceptedWith (s .front) l (min (s .walk .count) extensionLimit) (s .walk .spans)
+  whole-list = acceptedWith (s .front) l (min (s .walk .count) extensionLimit) (spansIn (s .walk .marks) (min (s .walk .count) extensionLimit))
 
   few-by : (u : Step) → endedBy u whole-list .header .count ≤ extensionLimit
   unfolding headerOf

@@ -1,2 +1,3 @@
+mod Spans
 pub mod Answers
 pub mod Theorems

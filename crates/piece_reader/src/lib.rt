@@ -3,16 +3,43 @@
 // length, and rules 13 to 15 by what stands where the walk has come to. Any state gets an answer.
 ghost use mathlib.Core.Path.{_≡_};
 ghost use Prim.Native.Nat.{_≤_};
-ghost use lib.ListN.{length};
+ghost use lib.ListN.{length, take};
+ghost use Rattle.extension.specs.Walk.{extensionLimit, firstPlace};
+ghost use Rattle.extension.specs.Listing.{spansOf};
+ghost use Rattle.piece_walk.specs.Marks.{spansBy};
 ghost use Rattle.piece_reader.specs.Answer.{listedBy, answerOf};
+use extension::FIRST;
 use extension::LIMIT;
+use extension::Span;
 use extension::Step;
 use extension::Walker;
 use layout::Checked;
 use layout::Layout;
+use piece_walk::Mark;
 use piece_walk::Walk;
 use pieces::Pieces;
 use reader::Reading;
+
+// The spans that the first `count` marks say, each where the one before it ends.
+fn spans_in(marks: [Mark; LIMIT], count: usize) -> [Span; LIMIT]
+    requires { ⌜ count ≤ extensionLimit ⌝ }
+    ensures { λ r. ⌜ r ≡ spansOf (spansBy firstPlace (take count marks)) ⌝ }
+{
+    let mut spans = listing::no_spans();
+    let mut start = FIRST;
+    let mut i = 0;
+    while i < count {
+        let mark = marks[i];
+        spans[i] = Span {
+            start,
+            size: mark.size,
+            code: mark.code,
+        };
+        start += number::natural32(mark.size);
+        i += 1;
+    }
+    spans
+}
 
 // Rules 13 to 15 of what stands where the walk has come to, now that the length is known; where they pass, the record.
 fn listed(front: &[u8], layout: Layout, taken: usize, walk: Walk) -> Reading
@@ -30,13 +57,13 @@ fn listed(front: &[u8], layout: Layout, taken: usize, walk: Walk) -> Reading
         count: walk.count,
     };
     let coming = walk.coming;
-    let spans = walk.spans;
+    let marks = walk.marks;
     let count = number::lesser(walk.count, LIMIT);
     let step = piece_walk::step_by(walker, coming, taken);
     match step {
         Step::Halt(r) => reader::refused(r),
-        Step::End => reader::accepted(front, layout, count, spans),
-        Step::Extension(_, _) => reader::accepted(front, layout, count, spans),
+        Step::End => reader::accepted(front, layout, count, spans_in(marks, count)),
+        Step::Extension(_, _) => reader::accepted(front, layout, count, spans_in(marks, count)),
     }
 }
 

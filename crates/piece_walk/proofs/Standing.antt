@@ -21,16 +21,16 @@ use Rattle.extension.specs.declared.Walker.{Walker}
 use Rattle.extension.specs.declared.Step.the-variants.{Extension, End, Halt}
 use Rattle.extension.specs.Walk.{extensionLimit, firstPlace, restOf, Found, extension, ended, refused, foundBy, found, past, stepFrom, stepOf}
 use Rattle.extension.specs.Walk.{Walked, listed, stopped, extensionsIn}
-use Rattle.extension.specs.Listing.{spansOf}
 use Rattle.extension.proofs.Regions.{length-rest, u32-same}
 use Rattle.extension.proofs.Found.{taken}
 use Rattle.listing.proofs.Passed.{Passed, pass-none, pass-turn, pass-end, pass-halt, stepped}
-use Rattle.listing.proofs.Filled.{spans-more}
 use Rattle.piece_walk.specs.declared.Walk.{Walk}
 use Rattle.piece_walk.specs.Window.{window}
+use Rattle.piece_walk.specs.Marks.{marksOf, spansBy}
 use Rattle.piece_walk.specs.Walking.{stepBy, walkerOf, passedBy, ifExtension, passing, resumed, walkedOn}
 use Rattle.piece_walk.specs.Whole.{ifFound, wholeFrom, placeAfter, standing, walkOf}
 use Rattle.piece_walk.proofs.Windows.{window-is}
+use Rattle.piece_walk.proofs.Marks.{marks-more, Follows, none, one, spans-back}
 use Rattle.piece_walk.proofs.More.{found-more, found-less}
 
 -- the step by the bytes kept is the walker's step over the bytes so far
@@ -132,6 +132,20 @@ module _ (order : Order) (end : ℕ) (b : List ℕ) where
       by ih ended d = rw append-nil p
       by ih (refused r) d = rw append-nil p
 
+  -- they stand one after the other
+  whole-follows : (k at : ℕ) → Follows at (wholeFrom order end b k at)
+  unfolding wholeFrom
+  whole-follows zero at = none
+  whole-follows (suc k) at = by (λ a. whole-follows k a) (found order (extensionLimit - suc k) at (restOf b end at)) refl
+    where
+      by : ((a : ℕ) → Follows a (wholeFrom order end b k a)) → (f : Found) → found order (extensionLimit - suc k) at (restOf b end at) ≡ f
+          → Follows at (onFound k at f)
+      by ih (extension x) d =
+          let t = taken order (extensionLimit - suc k) at (restOf b end at) x d in
+          one (ap (λ (y : Span). y .start) (t .span)) (t .size .whole) (ih (at + natAbs (x .size)))
+      by ih ended d = none
+      by ih (refused r) d = none
+
   abbrev wholes : List Span
   wholes = wholeFrom order end b extensionLimit firstPlace
 
@@ -141,6 +155,10 @@ module _ (order : Order) (end : ℕ) (b : List ℕ) where
   -- where the walk stands, what the walk over all extensions comes to
   on-all : On (extensionsIn order end b) place wholes
   on-all = passes (extensionsIn order end b) extensionLimit firstPlace [] refl (pass-none b (walkerAt firstPlace []) refl refl)
+
+  -- so the spans follow from the marks
+  pub standing-spans : spansBy firstPlace (take (length wholes) (marksOf wholes)) ≡ wholes
+  standing-spans = spans-back (whole-follows extensionLimit firstPlace)
 
   pub standing-listed : stepOf b (walkerAt place wholes) ≡ End → extensionsIn order end b ≡ listed wholes
   standing-listed e = pass-end (extensionsIn order end b) b (walkerAt place wholes) wholes on-all e
@@ -204,7 +222,7 @@ module _ (order : Order) (end : ℕ) (b piece : List ℕ) where
     one-more xs at x h a =
         let l : length xs + 1 ≡ length (xs ++ (x ∷ [])) = sym (length-append xs (x ∷ [])) in
         let w = window-is (at + natAbs (x .size)) end b old piece (λ q. absurd (omega arith)) in
-        λ i. record { at = at + natAbs (x .size); count = l i; coming = w i; spans = spans-more xs x h i }
+        λ i. record { at = at + natAbs (x .size); count = l i; coming = w i; marks = marks-more xs x h i }
 
     goes : (k : ℕ) (xs : List Span) (at : ℕ) → k + length xs ≡ extensionLimit → Ahead (length xs) at
         → passing order end old (length b) piece k (standing end c xs at)
@@ -252,14 +270,14 @@ module _ (order : Order) (end : ℕ) (b piece : List ℕ) where
 
   -- A piece takes the walk over b to the walk over the longer bytes. The eight bytes count only where they have begun to come.
   walked-on : (m : List ℕ) → (at-place < length b → m ≡ bytesAt at-place 8 (take end b))
-      → walkedOn order end (record { at = at-place; count = length before; coming = m; spans = spansOf before }) (length b) piece
+      → walkedOn order end (record { at = at-place; count = length before; coming = m; marks = marksOf before }) (length b) piece
       ≡ walkOf order end c
   unfolding walkedOn walkOf
   walked-on m known =
       let j = extensionLimit - length before in
       let ys = wholeFrom order end c j at-place in
       ap
-      (λ l. passing order end m (length b) piece j (record { at = at-place; count = length before; coming = l; spans = spansOf before }))
+      (λ l. passing order end m (length b) piece j (record { at = at-place; count = length before; coming = l; marks = marksOf before }))
       (window-is at-place end b m piece known)
       ∙ goes m j before at-place (omega (arith, few-whole order end b)) ahead
       ∙ ap (standing end c (before ++ ys)) (sym (place-append firstPlace before ys))
@@ -267,7 +285,7 @@ module _ (order : Order) (end : ℕ) (b piece : List ℕ) where
 
 -- the walk over bytes that end at 352 or before has come nowhere
 abbrev pub nowhere : ℕ → List ℕ → Walk
-nowhere end b = record { at = firstPlace; count = 0; coming = bytesAt firstPlace 8 (take end b); spans = spansOf [] }
+nowhere end b = record { at = firstPlace; count = 0; coming = bytesAt firstPlace 8 (take end b); marks = marksOf [] }
 
 pub walk-nowhere : (order : Order) (end : ℕ) (b : List ℕ) → length b ≤ firstPlace → walkOf order end b ≡ nowhere end b
 unfolding walkOf
@@ -312,7 +330,7 @@ module _ (order : Order) (end : ℕ) (b piece : List ℕ) where
         at = placeAfter firstPlace (w i);
         count = length (w i);
         coming = bytesAt (placeAfter firstPlace (w i)) 8 (e i);
-        spans = spansOf (w i);
+        marks = marksOf (w i);
       }
 
   pub walk-before : length (b ++ piece) ≤ walkOf order end b .at → walkOf order end b ≡ walkOf order end (b ++ piece)
@@ -321,7 +339,7 @@ module _ (order : Order) (end : ℕ) (b piece : List ℕ) where
       let xs = wholeFrom order end b extensionLimit firstPlace in
       let p = placeAfter firstPlace xs in
       let m = tabulate-same (λ i. getD (take end b) (p + i) 0) (λ i. getD (take end (b ++ piece)) (p + i) 0) 8 (λ i below. nothing p h i) in
-      (λ i. record { at = p; count = length xs; coming = m i; spans = spansOf xs })
+      (λ i. record { at = p; count = length xs; coming = m i; marks = marksOf xs })
       ∙ ap (λ zs. standing end (b ++ piece) zs (placeAfter firstPlace zs))
       (sym
       (whole-more order end b piece extensionLimit firstPlace

@@ -1,3 +1,4 @@
 pub mod Window
+pub mod Marks
 pub mod Walking
 pub mod Whole

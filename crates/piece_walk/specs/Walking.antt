@@ -13,6 +13,7 @@ use Rattle.extension.specs.declared.Step.the-variants.{Extension, End, Halt}
 use Rattle.extension.specs.Walk.{extensionLimit, foundBy, stepFrom}
 use Rattle.piece_walk.specs.declared.Walk.{Walk}
 use Rattle.piece_walk.specs.Window.{window}
+use Rattle.piece_walk.specs.Marks.{markOf}
 
 -- the next step, where `total` bytes have come and `coming` are the first eight at the walker's place
 unfoldable pub stepBy : Walker → List ℕ → ℕ → Step
@@ -31,7 +32,7 @@ passedBy end old n piece g x next =
       at = next .at;
       count = next .count;
       coming = window (next .at) end n old piece;
-      spans = set (g .spans) (g .count) x;
+      marks = set (g .marks) (g .count) (markOf x);
     }
 
 abbrev pub ifExtension : Step → Walk → (Span → Walker → Walk) → Walk
@@ -53,7 +54,7 @@ resumed end g n piece =
       at = g .at;
       count = g .count;
       coming = window (g .at) end n (g .coming) piece;
-      spans = g .spans;
+      marks = g .marks;
     }
 
 -- and on over all that has come whole

@@ -1,5 +1,5 @@
 -- The walk over the bytes so far as these alone say it, however they were cut: which extensions have come whole, and what is kept
--- beside their spans.
+-- beside their marks.
 use Prim.Native.Nat.{ℕ, zero, suc, _+_, _-_}
 use mathlib.Core.List.{List, [], _∷_}
 use lib.IntN.{natAbs}
@@ -8,8 +8,8 @@ use Rattle.field.specs.declared.Order.{Order}
 use Rattle.field.specs.Numbers.{bytesAt}
 use Rattle.extension.specs.declared.Span.{Span}
 use Rattle.extension.specs.Walk.{extensionLimit, firstPlace, restOf, Found, extension, ended, refused, found}
-use Rattle.extension.specs.Listing.{spansOf}
 use Rattle.piece_walk.specs.declared.Walk.{Walk}
+use Rattle.piece_walk.specs.Marks.{marksOf}
 
 abbrev pub ifFound : Found → (Span → List Span) → List Span
 ifFound (extension x) f = f x
@@ -27,10 +27,10 @@ abbrev pub placeAfter : ℕ → List Span → ℕ
 placeAfter at [] = at
 placeAfter at (x ∷ xs) = placeAfter (at + natAbs (x .size)) xs
 
--- the walk that has passed xs and stands at a place: beside the spans it keeps the first eight bytes there, none from the region's end on
+-- the walk that has passed xs and stands at a place: beside their marks it keeps the first eight bytes there, none from the region's end on
 abbrev pub standing : ℕ → List ℕ → List Span → ℕ → Walk
 standing end b xs at =
-    record { at = at; count = length xs; coming = bytesAt at 8 (take end b); spans = spansOf xs }
+    record { at = at; count = length xs; coming = bytesAt at 8 (take end b); marks = marksOf xs }
 
 -- the walk over the bytes b
 unfoldable pub walkOf : Order → ℕ → List ℕ → Walk

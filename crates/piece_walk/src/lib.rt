@@ -4,6 +4,7 @@
 ghost use mathlib.Core.Path.{_≡_};
 ghost use Prim.Native.Nat.{_+_, _<_};
 ghost use lib.ListN.{length};
+ghost use Rattle.piece_walk.specs.Marks.{markOf};
 ghost use Rattle.piece_walk.specs.Window.{windowByte, window};
 ghost use Rattle.piece_walk.specs.Walking.{stepBy, walkedOn};
 use extension::LIMIT;
@@ -12,14 +13,21 @@ use extension::Step;
 use extension::Walker;
 use field::Order;
 
-// The walk so far: where it stands, how many extensions it has passed and their spans, and the first eight bytes of the
-// one that is coming. Those that have not come, and those from the region's end on, are 0.
+// Of an extension that has come whole, its size and its code. Where it starts, the sizes before it say.
+#[repr(C)]
+pub struct Mark {
+    pub size: i32,
+    pub code: i32,
+}
+
+// The walk so far: where it stands, how many extensions it has passed and the marks of these, and the first eight bytes of
+// the one that is coming. Those that have not come, and those from the region's end on, are 0.
 #[repr(C)]
 pub struct Walk {
     pub at: usize,
     pub count: usize,
     pub coming: [u8; 8],
-    pub spans: [Span; LIMIT],
+    pub marks: [Mark; LIMIT],
 }
 
 // A byte of a window: of those before `taken` the old window has it, of the others the piece.
@@ -86,8 +94,17 @@ fn step_in(walker: Walker, old: [u8; 8], taken: usize, piece: &[u8]) -> Step
     walker.step_by(n, size, code)
 }
 
+fn mark_of(x: Span) -> Mark
+    ensures { λ r. ⌜ r ≡ markOf x ⌝ }
+{
+    Mark {
+        size: x.size,
+        code: x.code,
+    }
+}
+
 // The walk over all extensions that have come whole with `piece`, which follows `taken` bytes. Its fields are locals here,
-// so that a span is stored in place.
+// so that a mark is stored in place.
 pub fn walk_on(order: Order, end: usize, walk: Walk, taken: usize, piece: &[u8]) -> Walk
     requires { ⌜ taken + length (now piece) < 18446744073709551616 ⌝ }
     ensures { λ r. ⌜ r ≡ walkedOn order end walk taken (now (piece .entry)) ⌝ }
@@ -95,7 +112,7 @@ pub fn walk_on(order: Order, end: usize, walk: Walk, taken: usize, piece: &[u8])
     let old = walk.coming;
     let mut at = walk.at;
     let mut count = walk.count;
-    let mut spans = walk.spans;
+    let mut marks = walk.marks;
     loop {
         let walker = Walker {
             order,
@@ -106,7 +123,7 @@ pub fn walk_on(order: Order, end: usize, walk: Walk, taken: usize, piece: &[u8])
         let step = step_in(walker, old, taken, piece);
         match step {
             Step::Extension(x, next) => {
-                spans[count] = x;
+                marks[count] = mark_of(x);
                 at = next.at;
                 count = next.count;
             }
@@ -115,7 +132,7 @@ pub fn walk_on(order: Order, end: usize, walk: Walk, taken: usize, piece: &[u8])
                     at,
                     count,
                     coming: window_at(old, at, end, taken, piece),
-                    spans,
+                    marks,
                 };
             }
             Step::Halt(_) => {
@@ -123,7 +140,7 @@ pub fn walk_on(order: Order, end: usize, walk: Walk, taken: usize, piece: &[u8])
                     at,
                     count,
                     coming: window_at(old, at, end, taken, piece),
-                    spans,
+                    marks,
                 };
             }
         }

@@ -11,9 +11,9 @@ use lib.ListN.{length, take, replicate, length-append}
 use lib.Seq.{take-nil}
 use Rattle.field.specs.Numbers.{bytesAt}
 use Rattle.extension.specs.Walk.{firstPlace}
-use Rattle.extension.specs.Listing.{spansOf}
 use Rattle.layout.specs.File.{orderOf}
 use Rattle.piece_walk.specs.declared.Walk.{Walk}
+use Rattle.piece_walk.specs.Marks.{marksOf}
 use Rattle.piece_walk.specs.Walking.{walkedOn}
 use Rattle.piece_walk.specs.Whole.{walkOf}
 use Rattle.piece_walk.proofs.Standing.{walk-nowhere, walked-first, walked-later, walk-behind, walk-before}
@@ -88,6 +88,6 @@ fresh-kept =
     let order = orderOf (frontOf []) in
     let e = endIn order (frontOf []) in
     let m : replicate 8 0 ≡ bytesAt firstPlace 8 (take e []) = rw (take-nil {A = ℕ} e) in
-    let w : _≡_ {A = Walk} (record { at = firstPlace; count = 0; coming = replicate 8 0; spans = spansOf [] }) (walkOf order e []) =
-    (λ i. record { at = firstPlace; count = 0; coming = m i; spans = spansOf [] }) ∙ sym (walk-nowhere order e [] (omega arith)) in
+    let w : _≡_ {A = Walk} (record { at = firstPlace; count = 0; coming = replicate 8 0; marks = marksOf [] }) (walkOf order e []) =
+    (λ i. record { at = firstPlace; count = 0; coming = m i; marks = marksOf [] }) ∙ sym (walk-nowhere order e [] (omega arith)) in
     λ i. record { taken = 0; front = no-front i; walk = w i }

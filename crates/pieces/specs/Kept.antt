@@ -1,5 +1,5 @@
 -- What is kept of the bytes b, however they were cut: how many they are, the first 352, and the walk over their extensions, which keeps
--- the spans of those that have come whole and the first eight bytes of the next one (`walkOf` of the crate piece_walk). Nothing
+-- size and code of those that have come whole and the first eight bytes of the next one (`walkOf` of the crate piece_walk). Nothing
 -- else is kept: no payload, and no voxel, for the walk ends before the first.
 use Prim.Native.Nat.{ℕ}
 use mathlib.Core.List.{List}

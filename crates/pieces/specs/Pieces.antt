@@ -13,12 +13,12 @@ use Rattle.offset.specs.declared.Offset.{Offset}
 use Rattle.offset.specs.declared.Offset.the-variants.{Whole, NotWhole, TooLarge}
 use Rattle.offset.specs.Offset.{offsetOf}
 use Rattle.extension.specs.Walk.{firstPlace}
-use Rattle.extension.specs.Listing.{spansOf}
 use Rattle.buffer.specs.Put.{put}
 use Rattle.header.specs.declared.Kind.{Kind}
 use Rattle.header.specs.declared.Kind.the-variants.{Single, Pair}
 use Rattle.layout.specs.File.{orderOf, kindOf, hasExtensions}
 use Rattle.piece_walk.specs.declared.Walk.{Walk}
+use Rattle.piece_walk.specs.Marks.{marksOf}
 use Rattle.piece_walk.specs.Walking.{walkedOn}
 use Rattle.pieces.specs.declared.Pieces.{Pieces}
 use Rattle.pieces.specs.declared.Taken.{Taken}
@@ -40,7 +40,7 @@ fresh =
     record {
       taken = 0;
       front = replicate frontLength 0;
-      walk = record { at = firstPlace; count = 0; coming = replicate 8 0; spans = spansOf [] };
+      walk = record { at = firstPlace; count = 0; coming = replicate 8 0; marks = marksOf [] };
     }
 
 -- the first 352 bytes, with those of a piece that follows n bytes

@@ -1,14 +1,16 @@
 // A file that comes in pieces of any length (02-change-requests.md, P1): what is kept of it, and what a piece does to that.
-// Kept are its first 352 bytes, the spans of the extensions that have come whole and the first eight bytes of the next one;
-// payload and voxels are skipped. The state is a value. The crate piece_reader says what it reads as.
+// Kept are its first 352 bytes, size and code of the extensions that have come whole and the first eight bytes of the next
+// one; payload and voxels are skipped. The state is a value. The crate piece_reader says what it reads as.
 ghost use mathlib.Core.Path.{_≡_};
 ghost use Prim.Native.Nat.{_+_, _≤_};
 ghost use lib.ListN.{length};
 ghost use Rattle.layout.specs.File.{orderOf};
 ghost use Rattle.pieces.specs.Pieces.{passesTotal, frontWith, endBy, endIn, isSkipped, readOn, fresh, takenOf};
+use extension::LIMIT;
 use field::Order;
 use header::Kind;
 use offset::Offset;
+use piece_walk::Mark;
 use piece_walk::Walk;
 use refusal::Refusal;
 use refusal::Verdict;
@@ -135,7 +137,7 @@ impl Pieces {
                 at: 352,
                 count: 0,
                 coming: [0u8; 8],
-                spans: listing::no_spans(),
+                marks: [Mark { size: 0, code: 0 }; LIMIT],
             },
         }
     }

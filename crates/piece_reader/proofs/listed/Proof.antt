@@ -19,6 +19,7 @@ use Rattle.pieces.proofs.end_in.Reads as end-in-reads
 use Rattle.piece_walk.proofs.step_by.Reads as step-by-reads
 use Rattle.reader.proofs.accepted.Reads as accepted-reads
 use Rattle.reader.proofs.refused.Reads as refused-reads
+use Rattle.piece_reader.proofs.spans_in.Reads as spans-in-reads
 
 has-extensions-requires : tie.Need-has-extensions-requires
 has-extensions-requires c κs = search needs
@@ -63,11 +64,17 @@ refused-requires c κs = search needs
 enum-told : tie.Need-enum-told
 enum-told c = search needs
 
+spans-in-requires : tie.Need-spans-in-requires
+spans-in-requires c κs = search needs
+
 accepted-requires-2 : tie.Need-accepted-requires-2
 accepted-requires-2 c κs = search needs
 
 enum-told-2 : tie.Need-enum-told-2
 enum-told-2 c = search needs
+
+spans-in-requires-2 : tie.Need-spans-in-requires-2
+spans-in-requires-2 c κs = search needs
 
 accepted-requires-3 : tie.Need-accepted-requires-3
 accepted-requires-3 c κs = search needs
@@ -82,16 +89,16 @@ returns-2 c =
 returns-3 : tie.Need-returns-3
 unfolding listedBy
 returns-3 c =
-    let k = c .before in
+    let k = c .before .before in
     let s = k .before .before in
-    rw (here (some s), sym (step-is s) ∙ k .enum-told .given .1) (rw (s .before .lesser .ensures) at (c .accepted2 .ensures))
+    rw (here (some s), sym (step-is s) ∙ k .enum-told .given .1) (rw (c .before .spans-in .ensures, s .before .lesser .ensures) at (c .accepted2 .ensures))
 
 returns-4 : tie.Need-returns-4
 unfolding listedBy
 returns-4 c =
-    let k = c .before in
+    let k = c .before .before in
     let s = k .before .before in
-    rw (here (some s), sym (step-is s) ∙ k .enum-told2 .given .1) (rw (s .before .lesser .ensures) at (c .accepted3 .ensures))
+    rw (here (some s), sym (step-is s) ∙ k .enum-told2 .given .1) (rw (c .before .spans-in2 .ensures, s .before .lesser .ensures) at (c .accepted3 .ensures))
 
 pub listed-spec : {M : Type 1} → statement M
 listed-spec =
@@ -107,8 +114,10 @@ listed-spec =
     enum-known-step
     refused-requires
     enum-told
+    spans-in-requires
     accepted-requires-2
     enum-told-2
+    spans-in-requires-2
     accepted-requires-3
     returns-2
     returns-3

@@ -6,10 +6,10 @@ use mathlib.Core.List.{List}
 use native.Mathlib.Omega.{arith}
 use borrow.Author.Needs.{needs}
 use denote.Ref.{now}
-use lib.ListN.{length}
-use Rattle.extension.specs.declared.Span.{Span}
+use lib.ListN.{length, set}
 use Rattle.extension.specs.declared.Step.the-variants.{Extension}
 use Rattle.extension.specs.Walk.{extensionLimit}
+use Rattle.piece_walk.specs.declared.Mark.{Mark}
 use Rattle.piece_walk.specs.declared.Walk.{Walk}
 use Rattle.piece_walk.specs.Window.{window}
 use Rattle.piece_walk.specs.Walking.{stepBy, walkerOf, passing, walkedOn}
@@ -20,17 +20,18 @@ use Rattle.piece_walk.proofs.walk_on.Reads as reads
 use Rattle.piece_walk.proofs.walk_on.Lts as lts
 use Rattle.piece_walk.proofs.window_at.Reads as window-at-reads
 use Rattle.piece_walk.proofs.step_in.Reads as step-in-reads
+use Rattle.piece_walk.proofs.mark_of.Reads as mark-of-reads
 
-abbrev walk : ℕ → ℕ → List ℕ → List Span → Walk
-walk at count coming spans = record { at = at; count = count; coming = coming; spans = spans }
+abbrev walk : ℕ → ℕ → List ℕ → List Mark → Walk
+walk at count coming marks = record { at = at; count = count; coming = coming; marks = marks }
 
 abbrev Inv-loop : tie.InvT-loop
-Inv-loop order end taken piece old at₀ count₀ spans₀ at count spans =
-    passing order end old taken piece (extensionLimit - count₀) (walk at₀ count₀ (window at₀ end taken old piece) spans₀)
-    ≡ passing order end old taken piece (extensionLimit - count) (walk at count (window at end taken old piece) spans)
+Inv-loop order end taken piece old at₀ count₀ marks₀ at count marks =
+    passing order end old taken piece (extensionLimit - count₀) (walk at₀ count₀ (window at₀ end taken old piece) marks₀)
+    ≡ passing order end old taken piece (extensionLimit - count) (walk at count (window at end taken old piece) marks)
 
 abbrev μ-loop : tie.MeasureT-loop
-μ-loop order end taken piece old at₀ count₀ spans₀ at count spans = extensionLimit - count
+μ-loop order end taken piece old at₀ count₀ marks₀ at count marks = extensionLimit - count
 
 loop-holds : tie.Need-loop-holds Inv-loop μ-loop
 loop-holds c = refl
@@ -46,7 +47,7 @@ abbrev so-far : tie.After-step-in Inv-loop μ-loop → Walk
 so-far s =
     let l = s .before .loop in
     let a = s .before .before .before .before .before .args in
-    walk (l .at) (l .count) (window (l .at) (a .end) (a .taken) (a .walk .coming) (now (a .piece))) (l .spans)
+    walk (l .at) (l .count) (window (l .at) (a .end) (a .taken) (a .walk .coming) (now (a .piece))) (l .marks)
 
 step-is : (c : tie.After-known-told Inv-loop μ-loop) → let s = c .before .before .before in let a = s .before .before .before .before .before .args in
     stepBy (walkerOf (a .order) (a .end) (so-far s)) (so-far s .coming) (a .taken + length (now (a .piece)))
@@ -57,19 +58,33 @@ room-is : (c : tie.After-known-told Inv-loop μ-loop)
     → (so-far (c .before .before .before) .count < extensionLimit) × (c .before .step .given .0 .1 .0 .count ≡ so-far (c .before .before .before) .count + 1)
 room-is c = step-room _ _ _ _ _ (step-is c)
 
-mul-spans : tie.Need-mul-spans Inv-loop μ-loop
-mul-spans c = omega (arith, room-is c)
+mark-of-requires : tie.Need-mark-of-requires Inv-loop μ-loop
+mark-of-requires c κs = search needs
 
-array-set-from-spans : tie.Need-array-set-from-spans Inv-loop μ-loop
-array-set-from-spans c = omega (arith, room-is c)
+mul-marks : tie.Need-mul-marks Inv-loop μ-loop
+mul-marks c = omega (arith, room-is (c .before))
+
+array-set-from-marks : tie.Need-array-set-from-marks Inv-loop μ-loop
+array-set-from-marks c = omega (arith, room-is (c .before))
 
 loop-less : tie.Need-loop-less Inv-loop μ-loop
-loop-less c = omega (arith, room-is c)
+loop-less c = omega (arith, room-is (c .before))
 
 loop-again : tie.Need-loop-again Inv-loop μ-loop
 loop-again c =
-    let s = c .before .before .before in
-    s .before .loop .inv ∙ passing-on _ _ _ _ _ (so-far s) _ (c .before .step .given .0 .1 .0) (step-is c)
+    let k = c .before in
+    let s = k .before .before .before in
+    let l = s .before .loop in
+    let a = s .before .before .before .before .before .args in
+    let next = k .before .step .given .0 .1 .0 in
+    let coming = window (next .at) (a .end) (a .taken) (a .walk .coming) (now (a .piece)) in
+    l .inv
+    ∙ passing-on _ _ _ _ _ (so-far s) _ next (step-is k)
+    ∙ ap
+    (λ m.
+    passing (a .order) (a .end) (a .walk .coming) (a .taken) (now (a .piece)) (extensionLimit - next .count)
+    (walk (next .at) (next .count) coming (set (l .marks) (l .count) m)))
+    (sym (c .mark-of .ensures))
 
 enum-told : tie.Need-enum-told Inv-loop μ-loop
 enum-told c = search needs
@@ -85,7 +100,7 @@ returns c =
     sym
     (l .inv
     ∙ passing-end _ _ _ _ _ (so-far s) _ (sym (s .step-in .ensures) ∙ c .before .enum-told .given .1)
-    ∙ ap (λ m. walk (l .at) (l .count) m (l .spans)) (sym (c .window-at .ensures)))
+    ∙ ap (λ m. walk (l .at) (l .count) m (l .marks)) (sym (c .window-at .ensures)))
 
 enum-told-2 : tie.Need-enum-told-2 Inv-loop μ-loop
 enum-told-2 c = search needs
@@ -101,7 +116,7 @@ returns-2 c =
     sym
     (l .inv
     ∙ passing-halt _ _ _ _ _ (so-far s) _ _ (sym (s .step-in .ensures) ∙ c .before .enum-told2 .given .1)
-    ∙ ap (λ m. walk (l .at) (l .count) m (l .spans)) (sym (c .window-at2 .ensures)))
+    ∙ ap (λ m. walk (l .at) (l .count) m (l .marks)) (sym (c .window-at2 .ensures)))
 
 pub walk-on-spec : {M : Type 1} → statement M
 walk-on-spec =
@@ -112,8 +127,9 @@ walk-on-spec =
     loop-holds
     step-in-requires
     enum-known-step
-    mul-spans
-    array-set-from-spans
+    mark-of-requires
+    mul-marks
+    array-set-from-marks
     loop-less
     loop-again
     enum-told
