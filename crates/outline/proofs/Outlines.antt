@@ -1,7 +1,7 @@
 -- A file's outline: from what its rules and the scan of its extensions answer, and what it says of the file's reading.
 use Prim.Native.Nat.{ℕ, _≤_}
 use mathlib.Core.Path.{_≡_, refl, ap, sym, _∙_}
-use mathlib.Core.Bool.{true}
+use mathlib.Core.Bool.{Bool, true, false}
 use mathlib.Core.List.{List}
 use native.Mathlib.Omega.{arith}
 use lib.ListN.{length, getD}
@@ -18,8 +18,9 @@ use Rattle.listing.specs.Scan.{scanOf}
 use Rattle.header.specs.Fields.{headerOf}
 use Rattle.rules.specs.Rules.{regionEnd}
 use Rattle.layout.specs.declared.Layout.{Layout}
+use Rattle.layout.specs.declared.Checked.{Checked}
 use Rattle.layout.specs.declared.Checked.the-variants.{Fits, Breaks}
-use Rattle.layout.specs.File.{hasExtensions, fileRows, layoutOf, checkedOf, endOf}
+use Rattle.layout.specs.File.{hasExtensions, fileRows, layoutOf, checkedIn, checkedOf, endOf}
 use Rattle.layout.proofs.Checking.{checked-fits}
 use Rattle.reader.specs.Reading.{extensionsOf, judgement, refusedWith, acceptedWith, readingBy, readingOf, IsAccepted}
 use Rattle.reader.proofs.Answers.{judgement-fits, judgement-breaks}
@@ -27,7 +28,7 @@ use Rattle.reader.proofs.File.{AcceptedFile, judged-file, clear-rules, extended
 use Rattle.outline.specs.declared.Outline.{Outline}
 use Rattle.outline.specs.declared.Outlined.{Outlined}
 use Rattle.outline.specs.declared.Outlined.the-variants.{Shown, Hidden}
-use Rattle.outline.specs.Outline.{outlinedBy, outlineOf}
+use Rattle.outline.specs.Outline.{outlinedBy, outlineOf, checkedOutline, outlineIn}
 
 -- ---- The outline, from the answers below it
 
@@ -65,6 +66,21 @@ outlines-broken s wanted r e = rw (judgement-breaks s r e)
 -- ---- What the outline says of the reading
 
 -- a refused file: its reading is that refusal,
+-- of a file's first bytes too
+pub outlines-unread : (s : List ℕ) (len : ℕ) (whole : Bool) (wanted : ℕ) (r : Refusal) → (whole ≡ true → len ≡ length s)
+    → checkedIn s len ≡ Breaks r → Hidden r ≡ outlineIn s len whole wanted
+outlines-unread s len true wanted r h e = outlines-broken s wanted r (ap (checkedIn s) (sym (h refl)) ∙ e)
+outlines-unread s len false wanted r h e = rw e
+
+-- and what these show is what rules 1 to 12 answer
+pub checked-shown : (k : Checked) (o : Outline) → checkedOutline k ≡ Shown o → k ≡ Fits (o .layout)
+checked-shown (Fits l) o e = cc
+checked-shown (Breaks r) o e = cc
+
+pub checked-hidden : (k : Checked) (r : Refusal) → checkedOutline k ≡ Hidden r → k ≡ Breaks r
+checked-hidden (Fits l) r e = cc
+checked-hidden (Breaks q) r e = cc
+
 pub hidden-judged : (s : List ℕ) (wanted : ℕ) (r : Refusal) → outlineOf wanted s ≡ Hidden r → judgement s ≡ stopped r
 unfolding outlineOf
 hidden-judged s wanted r e = by (judgement s) e

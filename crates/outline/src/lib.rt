@@ -1,10 +1,13 @@
 // The outline of a file: rules 1 to 15 judged as reading judges them, with no record made (01-scope.md, "A file is accepted
 // when none of 1..15 holds of its bytes"). The calls that want little of a file answer from it; the crate reader makes the record.
 ghost use mathlib.Core.Path.{_≡_};
+ghost use mathlib.Core.Bool.{true};
+ghost use Prim.Native.Nat.{_≤_, min};
+ghost use lib.ListN.{length};
 ghost use Rattle.layout.specs.File.{checkedOf};
 ghost use Rattle.listing.specs.Scan.{scanOf};
 ghost use Rattle.reader.specs.Reading.{extensionsOf};
-ghost use Rattle.outline.specs.Outline.{outlineOf};
+ghost use Rattle.outline.specs.Outline.{outlineIn, outlineOf};
 use extension::Span;
 use layout::Checked;
 use layout::Layout;
@@ -63,13 +66,36 @@ fn outline_checked(file: &[u8], layout: Layout, wanted: usize) -> Outlined
     }
 }
 
+// Rules 1 to 12 of a file of `len` bytes, of which `file` has the header or, where there are fewer, all; where it is the
+// `whole` file, the other rules too, with the extension that is wanted. The piece reader and the calls on a whole file come
+// here both, so that the compiler puts rules 1 to 12 into this one place, and none of them pays for a call.
+pub fn outline_in(file: &[u8], len: usize, whole: bool, wanted: usize) -> Outlined
+    requires { ⌜ (min len 348 ≤ length (now file)) × (whole ≡ true → len ≡ length (now file)) ⌝ }
+    ensures { λ r. ⌜ r ≡ outlineIn (now (file .entry)) len whole wanted ⌝ }
+{
+    let checked = layout::check_in(file, len);
+    match checked {
+        Checked::Breaks(r) => Outlined::Hidden(r),
+        Checked::Fits(layout) => {
+            if whole {
+                return outline_checked(file, layout, wanted);
+            }
+            Outlined::Shown(Outline {
+                layout,
+                count: 0,
+                span: Span {
+                    start: 0,
+                    size: 0,
+                    code: 0,
+                },
+            })
+        }
+    }
+}
+
 // Rules 1 to 15 of a file, with the extension that is wanted.
 pub fn outline_of(file: &[u8], wanted: usize) -> Outlined
     ensures { λ r. ⌜ r ≡ outlineOf wanted (now (file .entry)) ⌝ }
 {
-    let checked = layout::check(file);
-    match checked {
-        Checked::Breaks(r) => Outlined::Hidden(r),
-        Checked::Fits(layout) => outline_checked(file, layout, wanted),
-    }
+    outline_in(file, file.len(), true, wanted)
 }

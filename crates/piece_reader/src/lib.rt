@@ -13,8 +13,8 @@ use extension::LIMIT;
 use extension::Span;
 use extension::Step;
 use extension::Walker;
-use layout::Checked;
 use layout::Layout;
+use outline::Outlined;
 use piece_walk::Mark;
 use piece_walk::Walk;
 use pieces::Pieces;
@@ -72,10 +72,11 @@ pub fn answer(pieces: Pieces) -> Reading
     ensures { λ r. ⌜ r ≡ answerOf pieces ⌝ }
 {
     let front = pieces.front;
-    let checked = layout::check_in(&front, pieces.taken);
-    match checked {
-        Checked::Breaks(r) => reader::refused(r),
-        Checked::Fits(layout) => {
+    let outlined = outline::outline_in(&front, pieces.taken, false, 0);
+    match outlined {
+        Outlined::Hidden(r) => reader::refused(r),
+        Outlined::Shown(outline) => {
+            let layout = outline.layout;
             let walk = pieces.walk;
             listed(&front, layout, pieces.taken, walk)
         }

@@ -1,30 +1,33 @@
 -- `answer` meets its contract.
 use mathlib.Core.Path.{sym, _∙_}
+use mathlib.Core.Bool.{false≢true}
 use native.Mathlib.Omega.{arith}
+use Rattle.layout.specs.File.{checkedIn}
+use Rattle.outline.proofs.Outlines.{checked-shown, checked-hidden}
 use Rattle.piece_reader.specs.Answer.{answerOf}
 use borrow.Author.Needs.{needs}
 use Rattle.piece_reader.proofs.answer.Statement.{statement}
 use Rattle.piece_reader.proofs.answer.Tie as tie
 use Rattle.piece_reader.proofs.answer.Reads as reads
 use Rattle.piece_reader.proofs.answer.Lts as lts
-use Rattle.layout.proofs.check_in.Reads as check-in-reads
+use Rattle.outline.proofs.outline_in.Reads as outline-in-reads
 use Rattle.piece_reader.proofs.listed.Reads as listed-reads
 use Rattle.reader.proofs.refused.Reads as refused-reads
 
-slice-aggregate-check-in : tie.Need-slice-aggregate-check-in
-slice-aggregate-check-in c = search needs
+slice-aggregate-outline-in : tie.Need-slice-aggregate-outline-in
+slice-aggregate-outline-in c = search needs
 
-check-in-requires : tie.Need-check-in-requires
-check-in-requires c κs = omega (arith, slice-aggregate-check-in c)
+outline-in-requires : tie.Need-outline-in-requires
+outline-in-requires c κs = (omega (arith, slice-aggregate-outline-in c), λ e. absurd (false≢true e))
 
-enum-known-checked : tie.Need-enum-known-checked
-enum-known-checked c = search needs
+enum-known-outlined : tie.Need-enum-known-outlined
+enum-known-outlined c = search needs
 
 refused-requires : tie.Need-refused-requires
 refused-requires c κs = search needs
 
-enum-known-checked-2 : tie.Need-enum-known-checked-2
-enum-known-checked-2 c = search needs
+enum-known-outlined-2 : tie.Need-enum-known-outlined-2
+enum-known-outlined-2 c = search needs
 
 slice-aggregate-listed : tie.Need-slice-aggregate-listed
 slice-aggregate-listed c = search needs
@@ -34,23 +37,27 @@ listed-requires c κs = omega (arith, slice-aggregate-listed c)
 
 returns : tie.Need-returns
 unfolding answerOf
-returns c = let k = c .before .before in rw (sym (k .before .before .check-in .ensures) ∙ k .checked .given .1) (c .refused .ensures)
+returns c =
+    let k = c .before .before in
+    let s = k .before .before .before .before .before .args .pieces in
+    rw (checked-hidden (checkedIn (s .front) (s .taken)) _ (sym (k .before .before .outline-in .ensures) ∙ k .outlined .given .1)) (c .refused .ensures)
 
 returns-2 : tie.Need-returns-2
 unfolding answerOf
 returns-2 c =
-    let k = c .before .before .before .before in
-    rw (sym (k .before .before .check-in .ensures) ∙ k .checked2 .given .1) (c .listed .ensures)
+    let k = c .before .before .before .before .before in
+    let s = k .before .before .before .before .before .args .pieces in
+    rw (checked-shown (checkedIn (s .front) (s .taken)) _ (sym (k .before .before .outline-in .ensures) ∙ k .outlined2 .given .1)) (c .listed .ensures)
 
 pub answer-spec : {M : Type 1} → statement M
 answer-spec =
     tie.close
     (tie.spec
-    slice-aggregate-check-in
-    check-in-requires
-    enum-known-checked
+    slice-aggregate-outline-in
+    outline-in-requires
+    enum-known-outlined
     refused-requires
-    enum-known-checked-2
+    enum-known-outlined-2
     slice-aggregate-listed
     listed-requires
     returns
