@@ -3,7 +3,6 @@ use Prim.Native.Nat.{ℕ}
 use mathlib.Core.Bool.{cond}
 use lib.Dec.{eqb}
 use lib.ListN.{length, getD}
-use Rattle.extension.specs.declared.Span.{Span}
 use Rattle.extension.specs.Walk.{Walked, listed, stopped}
 use Rattle.extension.specs.Listing.{noSpan}
 use Rattle.listing.specs.declared.Scanned.{Scanned}

@@ -1,7 +1,7 @@
 -- The walk over the bytes so far, as these alone say it (specs/Whole.antt): a piece takes it to the walk over the longer bytes
 -- (`walked-first`, `walked-later`), and from where it stands the whole list of extensions follows (`standing-listed`, `standing-stopped`).
 use Prim.Native.Nat.{ℕ, zero, suc, _+_, _-_, _<_, _≤_}
-use mathlib.Core.Path.{_≡_, refl, sym, ap, _∙_, subst}
+use mathlib.Core.Path.{_≡_, refl, sym, ap, _∙_}
 use mathlib.Core.Bool.{Bool, true, false}
 use mathlib.Core.List.{List, [], _∷_, _++_, append-nil}
 use native.Mathlib.Omega.{arith}
@@ -25,9 +25,8 @@ use Rattle.extension.proofs.Regions.{length-rest, u32-same}
 use Rattle.extension.proofs.Found.{taken}
 use Rattle.listing.proofs.Passed.{Passed, pass-none, pass-turn, pass-end, pass-halt, stepped}
 use Rattle.piece_walk.specs.declared.Walk.{Walk}
-use Rattle.piece_walk.specs.Window.{window}
 use Rattle.piece_walk.specs.Marks.{marksOf, spansBy}
-use Rattle.piece_walk.specs.Walking.{stepBy, walkerOf, passedBy, ifExtension, passing, resumed, walkedOn}
+use Rattle.piece_walk.specs.Walking.{stepBy, passedBy, ifExtension, passing, walkedOn}
 use Rattle.piece_walk.specs.Whole.{ifFound, wholeFrom, placeAfter, standing, walkOf}
 use Rattle.piece_walk.proofs.Windows.{window-is}
 use Rattle.piece_walk.proofs.Marks.{marks-more, Follows, none, one, spans-back}

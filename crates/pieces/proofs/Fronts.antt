@@ -9,7 +9,7 @@ use lib.Dec.{ltb}
 use lib.ListN.{length, getD, take, replicate, length-append, length-take, List·getD-append, List·getD-eq-default}
 use lib.Seq.{take-all, take-length, getD-take, getD-append-add, ext-getD}
 use Rattle.field.specs.declared.Order.{Order}
-use Rattle.field.specs.Numbers.{bytesAt, u16At, u32At}
+use Rattle.field.specs.Numbers.{u16At, u32At}
 use Rattle.field.proofs.Tabulate.{length-tabulate, tabulate-get, tabulate-same}
 use Rattle.buffer.specs.Put.{put}
 use Rattle.buffer.proofs.Laws.{put-nil, length-put, getD-put-before, getD-put-in, getD-put-after}

@@ -1,6 +1,6 @@
 -- What is kept depends on the bytes so far alone: a fresh start keeps what `keptOf` says of none, and a piece takes what is kept of b to
 -- what is kept of b and the piece.
-use Prim.Native.Nat.{ℕ, _+_, _<_, _≤_}
+use Prim.Native.Nat.{ℕ, _+_, _≤_}
 use mathlib.Core.Path.{_≡_, refl, sym, ap, _∙_}
 use mathlib.Core.Bool.{Bool, true, false, cond, _||_, and-eq-true-iff, false≢true}
 use mathlib.Core.List.{List, [], _++_}
@@ -17,8 +17,7 @@ use Rattle.piece_walk.specs.Marks.{marksOf}
 use Rattle.piece_walk.specs.Walking.{walkedOn}
 use Rattle.piece_walk.specs.Whole.{walkOf}
 use Rattle.piece_walk.proofs.Standing.{walk-nowhere, walked-first, walked-later, walk-behind, walk-before}
-use Rattle.pieces.specs.declared.Pieces.{Pieces}
-use Rattle.pieces.specs.Pieces.{frontLength, fresh, frontWith, endIn, walkWith, isSkipped, skippedBy, readOn, takenWith}
+use Rattle.pieces.specs.Pieces.{frontLength, fresh, endIn, walkWith, isSkipped, skippedBy, readOn, takenWith}
 use Rattle.pieces.specs.Kept.{frontOf, keptOf}
 use Rattle.pieces.proofs.Fronts.{no-front, front-kept, front-with}
 

@@ -5,16 +5,21 @@ use mathlib.Core.Bool.{Bool, true, false, cond}
 use mathlib.Core.List.{List, [], _∷_, _++_, append-assoc, append-nil}
 use native.Mathlib.Omega.{arith}
 use borrow.Author.Tests.{ltb-false, lt-ltb, le-ltb}
-use lib.ListN.{length, length-append}
+use lib.ListN.{length, take, length-append}
 use Rattle.refusal.specs.declared.Verdict.the-variants.{Accepted, Refused}
 use Rattle.refusal.specs.Table.{refusal}
 use Rattle.refusal.proofs.Rows.{refused-never}
 use Rattle.field.specs.Numbers.{joined}
+use Rattle.extension.specs.Walk.{extensionLimit, firstPlace}
+use Rattle.layout.specs.File.{orderOf}
+use Rattle.piece_walk.specs.Marks.{spansBy}
+use Rattle.piece_walk.specs.Whole.{wholeFrom, walkOf}
+use Rattle.piece_walk.proofs.Standing.{standing-spans}
 use Rattle.pieces.specs.declared.Pieces.{Pieces}
 use Rattle.pieces.specs.declared.Taken.{Taken}
-use Rattle.pieces.specs.Pieces.{totalLimit, passesTotal, fresh, isSkipped, skippedBy, readOn, takenWith, takenOf}
+use Rattle.pieces.specs.Pieces.{totalLimit, passesTotal, fresh, endIn, isSkipped, skippedBy, readOn, takenWith, takenOf}
 use Rattle.pieces.specs.Feeding.{afterAll, takenFrom}
-use Rattle.pieces.specs.Kept.{keptOf}
+use Rattle.pieces.specs.Kept.{frontOf, keptOf}
 use Rattle.pieces.proofs.Kept.{taken-kept, fresh-kept}
 
 -- "25 for a piece that would pass that total, before anything else; the reader's state stays": of any state
@@ -98,6 +103,12 @@ keeps b (p ∷ ps) = by (λ c. keeps c ps) (passesTotal (length b) (length p)) r
 -- the same however these were cut. Refused pieces are left out.
 pub pieces-kept : (ps : List (List ℕ)) → afterAll fresh ps ≡ keptOf (joined (takenFrom 0 ps))
 pieces-kept ps = ap (λ s. afterAll s ps) fresh-kept ∙ keeps [] ps
+
+-- what is kept of the extensions that have come whole says their spans
+pub kept-spans : (b : List ℕ) → let f = frontOf b in
+    spansBy firstPlace (take (keptOf b .walk .count) (keptOf b .walk .marks)) ≡ wholeFrom (orderOf f) (endIn (orderOf f) f) b extensionLimit firstPlace
+unfolding keptOf walkOf
+kept-spans b = let f = frontOf b in standing-spans (orderOf f) (endIn (orderOf f) f) b
 
 -- the bytes that were taken are within the total
 pub taken-room : (n : ℕ) (ps : List (List ℕ)) → n ≤ totalLimit → n + length (joined (takenFrom n ps)) ≤ totalLimit

@@ -1,11 +1,10 @@
 -- "keeps no .. voxel bytes": of a single file no byte from the voxel offset on is kept. A pair's voxels are not in the file that is read.
 use Prim.Native.Nat.{ℕ, _+_, _≤_, _<_}
-use mathlib.Core.Path.{_≡_, refl, sym, ap, _∙_}
+use mathlib.Core.Path.{_≡_, refl, ap, _∙_}
 use mathlib.Core.Bool.{Bool, true, false, cond}
 use mathlib.Core.List.{List}
 use native.Mathlib.Omega.{arith}
 use lib.ListN.{getD, take, length-take, List·getD-eq-default}
-use Rattle.field.specs.declared.Order.{Order}
 use Rattle.field.specs.Numbers.{u32At}
 use Rattle.field.proofs.Tabulate.{tabulate-get}
 use Rattle.offset.specs.declared.Offset.{Offset}

@@ -6,6 +6,7 @@ ghost use Prim.Native.Nat.{_+_, _≤_};
 ghost use lib.ListN.{length};
 ghost use Rattle.layout.specs.File.{orderOf};
 ghost use Rattle.pieces.specs.Pieces.{passesTotal, frontWith, endBy, endIn, isSkipped, readOn, fresh, takenOf};
+use extension::FIRST;
 use extension::LIMIT;
 use field::Order;
 use header::Kind;
@@ -81,6 +82,7 @@ fn end_by(kind: Kind, offset: Offset) -> usize
     }
 }
 
+// The same by a file's first bytes: 0 where the extender says that there are none.
 pub fn end_in(front: &[u8], order: Order) -> usize
     requires { ⌜ 348 ≤ length (now front) ⌝ }
     ensures { λ r. ⌜ r ≡ endIn order (now (front .entry)) ⌝ }
@@ -134,7 +136,7 @@ impl Pieces {
             taken: 0,
             front: [0u8; 352],
             walk: Walk {
-                at: 352,
+                at: FIRST,
                 count: 0,
                 coming: [0u8; 8],
                 marks: [Mark { size: 0, code: 0 }; LIMIT],

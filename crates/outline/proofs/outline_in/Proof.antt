@@ -6,10 +6,6 @@ use Rattle.outline.proofs.Outlines.{outlines-unread}
 use borrow.Author.Needs.{needs}
 use Rattle.outline.proofs.outline_in.Statement.{statement}
 use Rattle.outline.proofs.outline_in.Tie as tie
-use Rattle.outline.proofs.outline_in.Reads as reads
-use Rattle.outline.proofs.outline_in.Lts as lts
-use Rattle.layout.proofs.check_in.Reads as check-in-reads
-use Rattle.outline.proofs.outline_checked.Reads as outline-checked-reads
 
 check-in-requires : tie.Need-check-in-requires
 check-in-requires c κs = search needs

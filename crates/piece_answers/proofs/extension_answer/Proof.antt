@@ -10,11 +10,6 @@ use Rattle.piece_reader.proofs.Answers.{count-few}
 use borrow.Author.Needs.{needs}
 use Rattle.piece_answers.proofs.extension_answer.Statement.{statement}
 use Rattle.piece_answers.proofs.extension_answer.Tie as tie
-use Rattle.piece_answers.proofs.extension_answer.Reads as reads
-use Rattle.piece_answers.proofs.extension_answer.Lts as lts
-use Rattle.answers.proofs.refused_extension.Reads as refused-extension-reads
-use Rattle.piece_answers.proofs.shown_extension.Reads as shown-extension-reads
-use Rattle.piece_reader.proofs.answer.Reads as answer-reads
 
 answer-requires : tie.Need-answer-requires
 answer-requires c κs = search needs

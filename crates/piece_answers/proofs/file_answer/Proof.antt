@@ -8,11 +8,6 @@ use Rattle.piece_reader.proofs.Answers.{count-few}
 use borrow.Author.Needs.{needs}
 use Rattle.piece_answers.proofs.file_answer.Statement.{statement}
 use Rattle.piece_answers.proofs.file_answer.Tie as tie
-use Rattle.piece_answers.proofs.file_answer.Reads as reads
-use Rattle.piece_answers.proofs.file_answer.Lts as lts
-use Rattle.answers.proofs.refused_file.Reads as refused-file-reads
-use Rattle.piece_answers.proofs.shown_file.Reads as shown-file-reads
-use Rattle.piece_reader.proofs.answer.Reads as answer-reads
 
 answer-requires : tie.Need-answer-requires
 answer-requires c κs = search needs

@@ -9,9 +9,6 @@ use Rattle.extension.specs.Listing.{noSpan}
 use borrow.Author.Needs.{needs}
 use Rattle.piece_answers.proofs.shown_extension.Statement.{statement}
 use Rattle.piece_answers.proofs.shown_extension.Tie as tie
-use Rattle.piece_answers.proofs.shown_extension.Reads as reads
-use Rattle.piece_answers.proofs.shown_extension.Lts as lts
-use Rattle.answers.proofs.refused_extension.Reads as refused-extension-reads
 
 refused-extension-requires : tie.Need-refused-extension-requires
 refused-extension-requires c κs = search needs

@@ -5,10 +5,6 @@ use mir.Val.{toZ, ofZ}
 use borrow.Author.Needs.{needs}
 use Rattle.piece_answers.proofs.shown_file.Statement.{statement}
 use Rattle.piece_answers.proofs.shown_file.Tie as tie
-use Rattle.piece_answers.proofs.shown_file.Reads as reads
-use Rattle.piece_answers.proofs.shown_file.Lts as lts
-use Rattle.answers.proofs.big_endian.Reads as big-endian-reads
-use Rattle.answers.proofs.is_pair.Reads as is-pair-reads
 
 big-endian-requires : tie.Need-big-endian-requires
 big-endian-requires c κs = search needs

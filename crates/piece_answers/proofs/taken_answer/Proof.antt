@@ -4,9 +4,6 @@ use Rattle.piece_answers.specs.Answers.{answered, takenAnswer}
 use borrow.Author.Needs.{needs}
 use Rattle.piece_answers.proofs.taken_answer.Statement.{statement}
 use Rattle.piece_answers.proofs.taken_answer.Tie as tie
-use Rattle.piece_answers.proofs.taken_answer.Reads as reads
-use Rattle.piece_answers.proofs.taken_answer.Lts as lts
-use Rattle.pieces.proofs.Pieces.take.Reads as take-reads
 
 take-requires : tie.Need-take-requires
 take-requires c κs = search needs

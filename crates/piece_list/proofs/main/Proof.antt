@@ -9,16 +9,6 @@ use Rattle.pieces.specs.Pieces.{totalLimit}
 use Rattle.pieces.proofs.Theorems.{accepted-taken}
 use Rattle.piece_list.proofs.main.Statement.{statement}
 use Rattle.piece_list.proofs.main.Tie as tie
-use Rattle.piece_list.proofs.main.Reads as reads
-use Rattle.piece_list.proofs.main.Lts as lts
-use Rattle.io.proofs.count.Reads as count-reads
-use Rattle.libc.proofs.read.Reads as read-reads
-use Rattle.listing_print.proofs.put.Reads as put-reads
-use Rattle.listing_print.proofs.put_reading.Reads as put-reading-reads
-use Rattle.listing_print.proofs.put_refusal.Reads as put-refusal-reads
-use Rattle.piece_reader.proofs.answer.Reads as answer-reads
-use Rattle.pieces.proofs.Pieces.start.Reads as start-reads
-use Rattle.pieces.proofs.Pieces.take.Reads as take-reads
 
 abbrev Inv-loop : tie.InvT-loop
 Inv-loop pieces₀ buffer₀ t8 pieces buffer = length buffer ≡ 256

@@ -8,11 +8,6 @@ use Rattle.piece_reader.specs.Answer.{answerOf}
 use borrow.Author.Needs.{needs}
 use Rattle.piece_reader.proofs.answer.Statement.{statement}
 use Rattle.piece_reader.proofs.answer.Tie as tie
-use Rattle.piece_reader.proofs.answer.Reads as reads
-use Rattle.piece_reader.proofs.answer.Lts as lts
-use Rattle.outline.proofs.outline_in.Reads as outline-in-reads
-use Rattle.piece_reader.proofs.listed.Reads as listed-reads
-use Rattle.reader.proofs.refused.Reads as refused-reads
 
 slice-aggregate-outline-in : tie.Need-slice-aggregate-outline-in
 slice-aggregate-outline-in c = search needs

@@ -10,16 +10,6 @@ use Rattle.piece_reader.specs.Answer.{listedBy}
 use borrow.Author.Needs.{needs}
 use Rattle.piece_reader.proofs.listed.Statement.{statement}
 use Rattle.piece_reader.proofs.listed.Tie as tie
-use Rattle.piece_reader.proofs.listed.Reads as reads
-use Rattle.piece_reader.proofs.listed.Lts as lts
-use Rattle.layout.proofs.has_extensions.Reads as has-extensions-reads
-use Rattle.listing.proofs.no_spans.Reads as no-spans-reads
-use Rattle.number.proofs.lesser.Reads as lesser-reads
-use Rattle.pieces.proofs.end_in.Reads as end-in-reads
-use Rattle.piece_walk.proofs.step_by.Reads as step-by-reads
-use Rattle.reader.proofs.accepted.Reads as accepted-reads
-use Rattle.reader.proofs.refused.Reads as refused-reads
-use Rattle.piece_reader.proofs.spans_in.Reads as spans-in-reads
 
 has-extensions-requires : tie.Need-has-extensions-requires
 has-extensions-requires c κs = search needs

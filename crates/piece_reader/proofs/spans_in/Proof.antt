@@ -1,6 +1,6 @@
 -- `spans_in` meets its contract: so far the spans are those of the marks so far, and the next one starts where they end.
 use Prim.Native.Nat.{_+_, _-_, _*_, _<_, _≤_}
-use mathlib.Core.Path.{_≡_, refl, sym, ap, _∙_}
+use mathlib.Core.Path.{_≡_, refl, ap, _∙_}
 use native.Mathlib.Omega.{arith}
 use borrow.Author.Needs.{needs}
 use lib.ListN.{length, getD, set, take}
@@ -13,10 +13,6 @@ use Rattle.piece_walk.specs.Marks.{noMark, placeBy, spansBy}
 use Rattle.piece_reader.proofs.Spans.{place-turn, span-turn}
 use Rattle.piece_reader.proofs.spans_in.Statement.{statement}
 use Rattle.piece_reader.proofs.spans_in.Tie as tie
-use Rattle.piece_reader.proofs.spans_in.Reads as reads
-use Rattle.piece_reader.proofs.spans_in.Lts as lts
-use Rattle.listing.proofs.no_spans.Reads as no-spans-reads
-use Rattle.number.proofs.natural32.Reads as natural32-reads
 
 abbrev Inv-loop : tie.InvT-loop
 Inv-loop count marks spans₀ start₀ i₀ spans start i =

@@ -7,12 +7,6 @@ use mir.Val.{toZ, ofZ}
 use Rattle.piece_walk.specs.Walking.{stepBy}
 use Rattle.piece_walk.proofs.step_by.Statement.{statement}
 use Rattle.piece_walk.proofs.step_by.Tie as tie
-use Rattle.piece_walk.proofs.step_by.Reads as reads
-use Rattle.piece_walk.proofs.step_by.Lts as lts
-use Rattle.extension.proofs.Walker.step_by.Reads as step-by-reads
-use Rattle.field.proofs.read_i32.Reads as read-i32-reads
-use Rattle.number.proofs.lesser.Reads as lesser-reads
-use Rattle.number.proofs.minus.Reads as minus-reads
 
 lesser-requires : tie.Need-lesser-requires
 lesser-requires c κs = search needs

@@ -14,14 +14,6 @@ use Rattle.piece_walk.proofs.Stepping.{step-short, step-with, number-in
 use borrow.Author.Needs.{needs}
 use Rattle.piece_walk.proofs.step_in.Statement.{statement}
 use Rattle.piece_walk.proofs.step_in.Tie as tie
-use Rattle.piece_walk.proofs.step_in.Reads as reads
-use Rattle.piece_walk.proofs.step_in.Lts as lts
-use Rattle.extension.proofs.Walker.step_by.Reads as Walker-step-by-reads
-use Rattle.field.proofs.read_i32.Reads as read-i32-reads
-use Rattle.number.proofs.lesser.Reads as lesser-reads
-use Rattle.number.proofs.minus.Reads as minus-reads
-use Rattle.piece_walk.proofs.window_at.Reads as window-at-reads
-use Rattle.piece_walk.proofs.step_by.Reads as step-by-reads
 
 add-total : tie.Need-add-total
 add-total c = search needs

@@ -16,11 +16,6 @@ use Rattle.piece_walk.specs.Walking.{stepBy, walkerOf, passing, walkedOn
 use Rattle.piece_walk.proofs.Passing.{step-room, passing-on, passing-end, passing-halt}
 use Rattle.piece_walk.proofs.walk_on.Statement.{statement}
 use Rattle.piece_walk.proofs.walk_on.Tie as tie
-use Rattle.piece_walk.proofs.walk_on.Reads as reads
-use Rattle.piece_walk.proofs.walk_on.Lts as lts
-use Rattle.piece_walk.proofs.window_at.Reads as window-at-reads
-use Rattle.piece_walk.proofs.step_in.Reads as step-in-reads
-use Rattle.piece_walk.proofs.mark_of.Reads as mark-of-reads
 
 abbrev walk : ℕ → ℕ → List ℕ → List Mark → Walk
 walk at count coming marks = record { at = at; count = count; coming = coming; marks = marks }

@@ -10,9 +10,6 @@ use Rattle.field.proofs.Tabulate.{tabulate-turn, tabulate-done}
 use Rattle.piece_walk.specs.Window.{windowByte, window}
 use Rattle.piece_walk.proofs.window_at.Statement.{statement}
 use Rattle.piece_walk.proofs.window_at.Tie as tie
-use Rattle.piece_walk.proofs.window_at.Reads as reads
-use Rattle.piece_walk.proofs.window_at.Lts as lts
-use Rattle.piece_walk.proofs.window_byte.Reads as window-byte-reads
 
 abbrev Inv-loop : tie.InvT-loop
 Inv-loop old at end taken piece out₀ i₀ out i =

@@ -5,10 +5,6 @@ use borrow.Author.Tests.{lt-ltb, le-ltb}
 use borrow.Author.Needs.{needs}
 use Rattle.piece_walk.proofs.window_byte.Statement.{statement}
 use Rattle.piece_walk.proofs.window_byte.Tie as tie
-use Rattle.piece_walk.proofs.window_byte.Reads as reads
-use Rattle.piece_walk.proofs.window_byte.Lts as lts
-use Rattle.field.proofs.byte_at.Reads as byte-at-reads
-use Rattle.number.proofs.minus.Reads as minus-reads
 
 minus-requires : tie.Need-minus-requires
 minus-requires c κs = search needs

@@ -5,13 +5,6 @@ use Rattle.pieces.specs.Pieces.{endIn}
 use borrow.Author.Needs.{needs}
 use Rattle.pieces.proofs.end_in.Statement.{statement}
 use Rattle.pieces.proofs.end_in.Tie as tie
-use Rattle.pieces.proofs.end_in.Reads as reads
-use Rattle.pieces.proofs.end_in.Lts as lts
-use Rattle.field.proofs.read_u32.Reads as read-u32-reads
-use Rattle.layout.proofs.has_extensions.Reads as has-extensions-reads
-use Rattle.layout.proofs.kind_of.Reads as kind-of-reads
-use Rattle.offset.proofs.decode.Reads as decode-reads
-use Rattle.pieces.proofs.end_by.Reads as end-by-reads
 
 has-extensions-requires : tie.Need-has-extensions-requires
 has-extensions-requires c κs = search needs

@@ -11,10 +11,6 @@ use Rattle.pieces.proofs.Fronts.{front-stays, take-lesser}
 use borrow.Author.Needs.{needs}
 use Rattle.pieces.proofs.front_with.Statement.{statement}
 use Rattle.pieces.proofs.front_with.Tie as tie
-use Rattle.pieces.proofs.front_with.Reads as reads
-use Rattle.pieces.proofs.front_with.Lts as lts
-use Rattle.buffer.proofs.copy_in.Reads as copy-in-reads
-use Rattle.number.proofs.lesser.Reads as lesser-reads
 
 returns : tie.Need-returns
 returns c = let a = c .before .before .args in sym (front-stays (a .old) (a .taken) (now (a .piece)) (c .if1 .taken))

@@ -8,10 +8,6 @@ use Rattle.pieces.specs.Pieces.{frontLength, endIn}
 use borrow.Author.Needs.{needs}
 use Rattle.pieces.proofs.is_skipped.Statement.{statement}
 use Rattle.pieces.proofs.is_skipped.Tie as tie
-use Rattle.pieces.proofs.is_skipped.Reads as reads
-use Rattle.pieces.proofs.is_skipped.Lts as lts
-use Rattle.pieces.proofs.end_in.Reads as end-in-reads
-use Rattle.pieces.proofs.order_of.Reads as order-of-reads
 
 returns : tie.Need-returns
 returns c = rw (lt-leb frontLength (c .before .before .args .taken) (c .if1 .taken))

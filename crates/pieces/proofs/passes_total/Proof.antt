@@ -1,5 +1,5 @@
 -- `passes_total` meets its contract: the test without the sum is the test of the sum.
-use Prim.Native.Nat.{_+_, _-_}
+use Prim.Native.Nat.{_+_}
 use mathlib.Core.Path.{sym}
 use native.Mathlib.Omega.{arith}
 use borrow.Author.Tests.{lt-ltb}
@@ -7,8 +7,6 @@ use Rattle.pieces.specs.Pieces.{totalLimit}
 use Rattle.pieces.proofs.Totals.{without-sum}
 use Rattle.pieces.proofs.passes_total.Statement.{statement}
 use Rattle.pieces.proofs.passes_total.Tie as tie
-use Rattle.pieces.proofs.passes_total.Reads as reads
-use Rattle.pieces.proofs.passes_total.Lts as lts
 
 returns : tie.Need-returns
 returns c = let a = c .before .args in sym (lt-ltb totalLimit (a .taken + a .len) (omega arith))

@@ -9,12 +9,6 @@ use Rattle.pieces.specs.Pieces.{endIn, walkWith, readOn}
 use borrow.Author.Needs.{needs}
 use Rattle.pieces.proofs.read_on.Statement.{statement}
 use Rattle.pieces.proofs.read_on.Tie as tie
-use Rattle.pieces.proofs.read_on.Reads as reads
-use Rattle.pieces.proofs.read_on.Lts as lts
-use Rattle.pieces.proofs.end_in.Reads as end-in-reads
-use Rattle.pieces.proofs.front_with.Reads as front-with-reads
-use Rattle.pieces.proofs.order_of.Reads as order-of-reads
-use Rattle.piece_walk.proofs.walk_on.Reads as walk-on-reads
 
 front-with-requires : tie.Need-front-with-requires
 front-with-requires c κs = search needs

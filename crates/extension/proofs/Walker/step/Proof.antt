@@ -1,5 +1,4 @@
 -- `Walker::step` meets its contract: the part of the file that is handed on is `restOf`, whatever the state is.
-use Prim.Native.Nat.{_-_}
 use borrow.Author.Needs.{needs}
 use Rattle.extension.specs.Walk.{stepOf}
 use Rattle.extension.proofs.Regions.{part-rest}

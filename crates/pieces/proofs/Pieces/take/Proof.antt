@@ -1,21 +1,16 @@
 -- `take` meets its contract.
 use Prim.Native.Nat.{_+_, _≤_}
 use mathlib.Core.Path.{_≡_, sym, ap, _∙_}
-use mathlib.Core.Bool.{Bool, false, cond}
+use mathlib.Core.Bool.{false}
 use native.Mathlib.Omega.{arith}
 use borrow.Author.Tests.{ltb-false}
 use denote.Ref.{now}
 use lib.ListN.{length}
 use Rattle.refusal.specs.declared.Verdict.the-variants.{Accepted}
-use Rattle.pieces.specs.Pieces.{totalLimit, passesTotal, isSkipped, skippedBy, readOn, takenWith, takenOf}
+use Rattle.pieces.specs.Pieces.{totalLimit, passesTotal, takenWith, takenOf}
 use borrow.Author.Needs.{needs}
 use Rattle.pieces.proofs.Pieces.take.Statement.{statement}
 use Rattle.pieces.proofs.Pieces.take.Tie as tie
-use Rattle.pieces.proofs.Pieces.take.Reads as reads
-use Rattle.pieces.proofs.Pieces.take.Lts as lts
-use Rattle.pieces.proofs.is_skipped.Reads as is-skipped-reads
-use Rattle.pieces.proofs.passes_total.Reads as passes-total-reads
-use Rattle.pieces.proofs.read_on.Reads as read-on-reads
 
 passes-total-requires : tie.Need-passes-total-requires
 passes-total-requires c κs = search needs
