@@ -1,27 +1,29 @@
 /*
  * Vestumbral: NIfTI-1 files, single (magic "n+1") and pair (magic "ni1"), of either byte order, for a C program.
  *
- * The rules are those of the project's paper 01-scope.md; here is what a caller needs of them.
+ * The rules are those of the project's papers 01-scope.md and 02-change-requests.md; here is what a caller needs of them.
  *
  * Every call takes any bytes and any numbers, ends, and answers by value. There are no out-parameters, no global state, no
  * allocation and nothing to free. An answer begins with `refusal`, 0 for done, else a number of the table below, and `place`, the
  * place in the file that the refusal speaks of. After a refusal every lent buffer has the bytes that it had.
  *
  * A `file` is a whole single file, or the header file of a pair. An `image` is the image file of a pair. For a single file the
- * image arguments are neither read nor changed; pass NULL and 0.
+ * image arguments are neither read nor changed; pass NULL and 0. A call that fills an `out` answers how many bytes it wrote; all
+ * past them stay as they were.
  *
  * What the caller owes:
  *   - Each pointer points to at least as many bytes as the length after it says, and nothing else writes them during the call.
  *     NULL with length 0 is an empty buffer.
- *   - Where a call writes (swap, append, replace, remove), the buffers it is given do not overlap: not `file` and `image`, not
- *     `buffer` and `payload`.
- *   - vestumbral_slice_at and vestumbral_position_of compute in binary32 and are called in the default floating-point state: round
- *     to nearest, no exception trapped, neither flush-to-zero nor denormals-are-zero (a program linked with -ffast-math starts with
- *     both). In another state a time or a position may be another number, and so may what hangs on it: a slice's state and refusal
- *     23. Read, extension_at, voxel, swap, the edits and the calls for pieces do not depend on that state.
+ *   - Where a call writes (swap, append, replace, remove, turn), what it writes overlaps nothing else that it is given: not `file`
+ *     and `image`, not `buffer` and `payload`, not `out` or `out_image` and any other buffer of the call.
+ *   - vestumbral_slice_at, vestumbral_position_of and, of a file whose sform_code is above 0, vestumbral_turn compute in binary32
+ *     and are called in the default floating-point state: round to nearest, no exception trapped, neither flush-to-zero nor
+ *     denormals-are-zero (a program linked with -ffast-math starts with both). In another state a time, a position or a turned srow
+ *     number may be another number, and so may what hangs on it: a slice's state and refusal 23. Read, extension_at, voxel, swap,
+ *     the edits, the calls for pieces and any other turn do not depend on that state.
  *
- * The refusals. They are tried in the order of their numbers, but 24 and 25 before anything else by the calls that give them. At
- * each extension 15 is tried, then 13, then 14.
+ * The refusals. They are tried in the order of their numbers, but 24 and 25 before anything else by the calls that give them, and
+ * by a turn 29 and 30, then 23, then 22. At each extension 15 is tried, then 13, then 14.
  *
  *   No  given when                                                                              place
  *    1  fewer than 348 bytes                                                                    0
@@ -48,10 +50,12 @@
  *   19  the code offered is negative                                                            0
  *   20  append where the extender is zero and bytes already follow 352 in the region            0
  *   21  the edited file would have 65 extensions, or its region would end past 134217728        0
- *   22  the result is longer than the buffer                                                    0
- *   23  no position                                                                             0
+ *   22  the result is longer than the buffer; of a turn, than either buffer                     0
+ *   23  no position; of a turn, sform_code is above 0 and a new srow number is not finite       0
  *   24  the stated file length is above the buffer's length                                     0
  *   25  a piece would make the file longer than 2199023255552 bytes                             0
+ *   29  fewer than three dims                                                                   0
+ *   30  the three axes named are not 1, 2 and 3, each once                                      0
  *
  * The extension region begins at 352. It ends at vox_offset in a single file and at the file's end in a pair's header file.
  */
@@ -124,6 +128,13 @@ typedef struct {
     uint64_t refusal, place;
     vestumbral_pieces pieces;
 } vestumbral_taken;
+
+/* The answer of a turn. Both lengths are 0 on a refusal. */
+typedef struct {
+    uint64_t refusal, place;
+    uint64_t length;       /* of the new file, which is as long as the old one */
+    uint64_t image_length; /* of a pair's new image file, which is as long as the old one; 0 for a single file */
+} vestumbral_turned;
 
 /* What the file is. Refusals 1..15. */
 vestumbral_file vestumbral_read(const uint8_t *file, size_t file_len);
@@ -198,6 +209,24 @@ vestumbral_file vestumbral_pieces_file(vestumbral_pieces pieces);
 
 /* vestumbral_extension_at of the joined bytes. Refusals 1..15, then 18. */
 vestumbral_extension vestumbral_pieces_extension_at(vestumbral_pieces pieces, uint64_t number);
+
+/*
+ * Makes a file in `out` with axes 1 to 3 in another order: new axis k shows old axis `axisk`, which is 1, 2 or 3, and old axis k is
+ * reversed where `reversek` is not 0. Higher axes go along. `file` and `image` stay. A pair's new image file goes to `out_image`;
+ * of a single file that buffer is neither read nor changed. Each new file is as long as its old one, and bytes past it stay.
+ *
+ * Each voxel has the bytes of the voxel that it came from, and dim and pixdim 1 to 3 those of the axis that is shown. qform_code,
+ * dim_info and slice_code become 0, by any turn. Where sform_code is above 0, a reversed axis of n voxels has column x (n - 1)
+ * added to the shift of each srow row, for the old axes 1 to 3 in this order, in binary32, the product and the sum each rounded;
+ * then the columns of the reversed axes are negated, and then the columns permuted. Where it is not, the rows stay as they are. All
+ * else is copied: extensions, private bytes, an image file's front and bytes after the image.
+ *
+ * Refusals 1..15, 16 for a pair, 29, 30, 23, then 22: `out` is shorter than `file`, or for a pair `out_image` than `image`.
+ */
+vestumbral_turned vestumbral_turn(const uint8_t *file, size_t file_len, const uint8_t *image, size_t image_len,
+                                  uint64_t axis1, uint64_t axis2, uint64_t axis3,
+                                  uint64_t reverse1, uint64_t reverse2, uint64_t reverse3,
+                                  uint8_t *out, size_t out_len, uint8_t *out_image, size_t out_image_len);
 
 #ifdef __cplusplus
 }
