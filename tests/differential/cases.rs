@@ -5,6 +5,8 @@ use crate::files::{extension, Header, EXTENSIONS, NO_EXTENSIONS, OFFSET_352};
 use crate::library::STATE_WORDS;
 use crate::memory::Where;
 use crate::rules::{self, Edit, Known, Order, DATATYPES, REGION, REGION_LIMIT, TOTAL};
+use crate::turn::Turn;
+use crate::turn_cases;
 use std::fmt;
 
 /// The most bytes that a lent buffer has: a region that ends at 2^27, an image behind it and some.
@@ -36,24 +38,25 @@ impl Random {
         self.next() % bound.max(1)
     }
 
-    fn size(&mut self, bound: usize) -> usize {
+    pub fn size(&mut self, bound: usize) -> usize {
         self.below(bound as u64) as usize
     }
 
     /// Once in n.
-    fn once_in(&mut self, n: u64) -> bool {
+    pub fn once_in(&mut self, n: u64) -> bool {
         self.below(n) == 0
     }
 
-    fn pick<T: Copy>(&mut self, of: &[T]) -> T {
+    pub fn pick<T: Copy>(&mut self, of: &[T]) -> T {
         of[self.size(of.len())]
     }
 
-    fn bytes(&mut self, length: usize) -> Vec<u8> {
+    pub fn bytes(&mut self, length: usize) -> Vec<u8> {
         (0..length.div_ceil(8)).flat_map(|_| self.next().to_le_bytes()).take(length).collect()
     }
 }
 
+/// What is asked. Beside a turn stands another, which follows it in the laws.
 #[derive(Clone, Copy, PartialEq, Debug)]
 pub enum Call {
     Read,
@@ -65,16 +68,37 @@ pub enum Call {
     Append { file_len: u64, code: i32 },
     Replace { file_len: u64, number: u64, code: i32 },
     Remove { file_len: u64, number: u64 },
+    Turn { axes: [u64; 3], reverse: [u64; 3], next: Turn },
 }
 
-/// The image, or an edit's payload.
+/// The image, an edit's payload, or a buffer to be filled.
 #[derive(Clone)]
 pub enum Other {
     Own(Vec<u8>),
     /// So many of the zero bytes, which can't be written.
     Zeros(usize),
-    /// So many bytes that can't be read: a single file's image.
+    /// So many bytes that can't be read: a single file's image, old or new.
     Closed(usize),
+}
+
+impl Other {
+    pub fn none() -> Other {
+        Other::Own(Vec::new())
+    }
+
+    pub fn own(&self) -> &[u8] {
+        match self {
+            Other::Own(bytes) => bytes,
+            _ => &[],
+        }
+    }
+
+    pub fn length(&self) -> usize {
+        match *self {
+            Other::Own(ref bytes) => bytes.len(),
+            Other::Zeros(length) | Other::Closed(length) => length,
+        }
+    }
 }
 
 /// A piece of the file: its length, where it lies, and whether answers are asked for after it.
@@ -114,6 +138,9 @@ pub struct Case {
     pub other: Other,
     pub main_at: Where,
     pub other_at: Where,
+    /// The two buffers that a turn fills.
+    pub rooms: [Other; 2],
+    pub rooms_at: [Where; 2],
     pub feeding: Feeding,
 }
 
@@ -178,7 +205,7 @@ fn slices(random: &mut Random, header: &mut Header, dims: &[i16]) {
 }
 
 /// sform_code and the twelve srow numbers.
-fn srow(random: &mut Random, header: &mut Header) {
+pub fn srow(random: &mut Random, header: &mut Header) {
     header.set16(254, if random.once_in(12) { random.pick(&[0, -1, -32768]) } else { random.pick(&[1, 2, 4, 256, 32767]) });
     let manner = random.below(8);
     for number in 0..12 {
@@ -393,7 +420,7 @@ fn indexes<const N: usize>(random: &mut Random, known: Option<&Known>) -> [u64; 
 }
 
 /// Own bytes for an image, or bytes that a single file's call must leave alone.
-fn unread_image(random: &mut Random) -> Other {
+pub fn unread_image(random: &mut Random) -> Other {
     let length = random.size(100);
     match random.below(3) {
         0 => Other::Own(Vec::new()),
@@ -402,7 +429,7 @@ fn unread_image(random: &mut Random) -> Other {
     }
 }
 
-fn image(random: &mut Random, known: Option<&Known>, written: bool) -> Other {
+pub fn image(random: &mut Random, known: Option<&Known>, written: bool) -> Other {
     let Some(known) = known else {
         let length = random.size(100);
         return Other::Own(random.bytes(length));
@@ -475,7 +502,7 @@ fn code(random: &mut Random) -> i32 {
     }
 }
 
-fn place(random: &mut Random, length: usize) -> Where {
+pub fn place(random: &mut Random, length: usize) -> Where {
     match random.below(4) {
         0 if length == 0 => Where::Null,
         0 => Where::Front,
@@ -552,27 +579,42 @@ fn other_bytes<'a>(other: &'a Other, zeros: &'a [u8]) -> &'a [u8] {
 }
 
 impl Case {
+    /// How long the buffers are that a turn fills.
+    pub fn room(&self) -> [u64; 2] {
+        [0, 1].map(|i: usize| self.rooms[i].length() as u64)
+    }
+
     /// The image or payload, as the rules see it.
     pub fn other<'a>(&'a self, zeros: &'a [u8]) -> &'a [u8] {
         other_bytes(&self.other, zeros)
     }
 
     fn at(call: Call, main: Vec<u8>, other: Other) -> Case {
-        Case { call, main, other, main_at: Where::Back, other_at: Where::Back, feeding: Feeding::Not }
+        Case::filling(call, main, other, [Other::none(), Other::none()])
+    }
+
+    pub fn filling(call: Call, main: Vec<u8>, other: Other, rooms: [Other; 2]) -> Case {
+        let (main_at, other_at, rooms_at) = (Where::Back, Where::Back, [Where::Back; 2]);
+        Case { call, main, other, main_at, other_at, rooms, rooms_at, feeding: Feeding::Not }
     }
 
     fn fed(main: Vec<u8>, feeding: Feeding) -> Case {
-        Case { feeding, ..Case::at(Call::Read, main, Other::Own(Vec::new())) }
+        Case { feeding, ..Case::at(Call::Read, main, Other::none()) }
     }
 
     /// The case of this number.
     pub fn new(seed: u64, number_of_case: u64, zeros: &[u8]) -> Case {
         let random = &mut Random::new(seed, number_of_case);
-        let call = random.below(20);
-        let file = if matches!(call, 2 | 16..) { extended_file(random) } else { file(random) };
+        let call = random.below(25);
+        let file = match call {
+            2 | 16..=19 => extended_file(random),
+            20.. => turn_cases::file(random),
+            _ => file(random),
+        };
         let known = rules::read(&file).ok();
         let known = known.as_ref();
-        let none = Other::Own(Vec::new());
+        let none = Other::none();
+        let mut rooms = [Other::none(), Other::none()];
         let count = known.map_or(0, |known| known.spans.len() as u64);
         let (call, main, other) = match call {
             0 | 1 => (Call::Read, file, none),
@@ -583,6 +625,11 @@ impl Case {
             10..=12 => (Call::Swap, file, image(random, known, true)),
             13..=15 => append(random, file, zeros),
             16..=18 => replace(random, file, known, zeros),
+            20.. => {
+                let (call, other, filled) = turn_cases::any(random, &file, known);
+                rooms = filled;
+                (call, file, other)
+            }
             _ => {
                 let number = number(random, count);
                 let (main, file_len) = buffer(random, file, &Edit::Remove { number });
@@ -591,11 +638,12 @@ impl Case {
         };
         let main_at = place(random, main.len());
         let other_at = place(random, other_bytes(&other, zeros).len());
+        let rooms_at = [0, 1].map(|room: usize| place(random, rooms[room].own().len()));
         let feeding = match call {
             Call::Read | Call::ExtensionAt { .. } => Feeding::Pieces { pieces: pieces(random, &main), words: words(random) },
             _ => Feeding::Not,
         };
-        Case { call, main, other, main_at, other_at, feeding }
+        Case { call, main, other, main_at, other_at, rooms, rooms_at, feeding }
     }
 }
 
@@ -623,7 +671,7 @@ fn slice(random: &mut Random, file: &[u8], known: Option<&Known>) -> u64 {
 }
 
 /// The cases that hang on no seed, and come first.
-pub const FIXED: u64 = LARGE + CUT + TALL;
+pub const FIXED: u64 = LARGE + CUT + TALL + turn_cases::FIXED;
 
 /// The cases at 2^27 and 2^40, which take up to half a gigabyte while they run; the files that are cut at every place; those that
 /// are fed up to 2^41 bytes.
@@ -636,8 +684,10 @@ pub fn fixed(number: u64) -> Case {
         large(number)
     } else if number < LARGE + CUT {
         Case::fed(cut_everywhere(number - LARGE), Feeding::EveryCut)
-    } else {
+    } else if number < LARGE + CUT + TALL {
         Case::fed(tall(number - LARGE - CUT), Feeding::ToTotal)
+    } else {
+        turn_cases::fixed(number - LARGE - CUT - TALL)
     }
 }
 
@@ -742,7 +792,7 @@ fn long_pair(length: u64) -> Vec<u8> {
 }
 
 fn large(number: u64) -> Case {
-    let none = || Other::Own(Vec::new());
+    let none = Other::none;
     let most = (REGION_LIMIT - REGION - 8) as usize;
     let full = REGION_LIMIT + 12;
     let a = |length: usize| {

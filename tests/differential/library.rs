@@ -1,4 +1,4 @@
-//! The library's thirteen calls as include/vestumbral.h declares them, and their answers. Nothing checks these declarations but the
+//! The library's fourteen calls as include/vestumbral.h declares them, and their answers. Nothing checks these declarations but the
 //! comparison itself, so they are kept beside one another and in the header's order.
 
 use std::fmt;
@@ -88,6 +88,15 @@ pub struct Taken {
     pub pieces: Pieces,
 }
 
+#[repr(C)]
+#[derive(Clone, Copy, Default, PartialEq, Eq, Debug)]
+pub struct TurnedAnswer {
+    pub refusal: u64,
+    pub place: u64,
+    pub length: u64,
+    pub image_length: u64,
+}
+
 #[link(name = "vestumbral", kind = "static")]
 extern "C" {
     pub fn vestumbral_read(file: *const u8, file_len: usize) -> FileAnswer;
@@ -130,6 +139,22 @@ extern "C" {
     pub fn vestumbral_pieces_take(pieces: Pieces, piece: *const u8, piece_len: usize) -> Taken;
     pub fn vestumbral_pieces_file(pieces: Pieces) -> FileAnswer;
     pub fn vestumbral_pieces_extension_at(pieces: Pieces, number: u64) -> ExtensionAnswer;
+    pub fn vestumbral_turn(
+        file: *const u8,
+        file_len: usize,
+        image: *const u8,
+        image_len: usize,
+        axis1: u64,
+        axis2: u64,
+        axis3: u64,
+        reverse1: u64,
+        reverse2: u64,
+        reverse3: u64,
+        out: *mut u8,
+        out_len: usize,
+        out_image: *mut u8,
+        out_image_len: usize,
+    ) -> TurnedAnswer;
 }
 
 /// The answer of any call.
@@ -140,6 +165,7 @@ pub enum Answer {
     Extension(ExtensionAnswer),
     Slice(SliceAnswer),
     Position(PositionAnswer),
+    Turned(TurnedAnswer),
 }
 
 impl Answer {
@@ -150,6 +176,7 @@ impl Answer {
             Answer::Extension(answer) => answer.refusal,
             Answer::Slice(answer) => answer.refusal,
             Answer::Position(answer) => answer.refusal,
+            Answer::Turned(answer) => answer.refusal,
         }
     }
 }

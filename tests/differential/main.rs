@@ -1,9 +1,10 @@
-//! Compares the library, called through its C interface, with the rules of 01-scope.md written a second time in rules.rs: the whole
-//! answer, the whole of every lent buffer, and the bytes beside it. A file that is read is fed in pieces too.
+//! Compares the library, called through its C interface, with the rules of 01-scope.md and 02-change-requests.md written a second
+//! time in rules.rs and turn.rs: the whole answer, the whole of every lent buffer, and the bytes beside it. A file that is read is
+//! fed in pieces too, and a turn that is not refused is held to the laws of turns.
 //!
 //!     differential [--cases N] [--seed S] [--only CASE] [--self-check]
 //!
-//! It fails on any difference, and where a refusal that a call can give was never reached.
+//! It fails on any difference, and where a refusal that a call can give was never reached, or two of a turn never held together.
 
 mod cases;
 mod files;
@@ -12,18 +13,25 @@ mod memory;
 mod pieces;
 mod rules;
 mod self_check;
+mod turn;
+mod turn_cases;
+mod turn_laws;
 
 use cases::{Call, Case, Feeding, Other, Piece};
 use library::*;
-use memory::{Area, Tall, Where};
+use memory::{Area, Lent, Tall, Where};
 use rules::{Edit, Known, Order, Refusal, Slice, Span};
+use std::collections::BTreeMap;
 use std::sync::atomic::Ordering;
+use turn::Turn;
+use turn_laws::{Both, Engine, Tried};
 
-/// What a call leaves behind: its answer and the content of the two buffers.
+/// What a call leaves behind: its answer and the content of the two buffers, and of the two that a turn fills.
 struct Outcome {
     answer: Answer,
     main: Vec<u8>,
     other: Vec<u8>,
+    rooms: [Vec<u8>; 2],
 }
 
 fn reply(done: Result<(u64, u64), Refusal>) -> Answer {
@@ -73,17 +81,31 @@ fn position_answer(file: &[u8], index: [u64; 3]) -> Answer {
     })
 }
 
+fn turned_answer(done: &Result<Both, Refusal>) -> Answer {
+    Answer::Turned(match done {
+        Ok((file, image)) => {
+            TurnedAnswer { length: file.len() as u64, image_length: image.len() as u64, ..TurnedAnswer::default() }
+        }
+        Err(no) => TurnedAnswer { refusal: no.number, place: no.place, ..TurnedAnswer::default() },
+    })
+}
+
+/// The buffer with its first bytes replaced.
+fn over(buffer: &[u8], first: &[u8]) -> Vec<u8> {
+    [first, &buffer[first.len()..]].concat()
+}
+
 /// What the rules say of the case.
 fn by_rules(case: &Case, zeros: &[u8]) -> Outcome {
     let main = &case.main;
     let other = case.other(zeros);
-    let own = match &case.other {
-        Other::Own(bytes) => bytes.clone(),
-        _ => Vec::new(),
+    let own = case.other.own();
+    let kept = |answer| {
+        let rooms = [0, 1].map(|i: usize| case.rooms[i].own().to_vec());
+        Outcome { answer, main: main.clone(), other: own.to_vec(), rooms }
     };
-    let kept = |answer| Outcome { answer, main: main.clone(), other: own.clone() };
     let edited = |file_len, edit| match rules::edit(main, file_len, &edit) {
-        Ok((whole, length)) => Outcome { answer: reply(Ok((0, length))), main: whole, other: own.clone() },
+        Ok((whole, length)) => Outcome { main: whole, ..kept(reply(Ok((0, length)))) },
         Err(no) => kept(reply(Err(no))),
     };
     match case.call {
@@ -93,9 +115,20 @@ fn by_rules(case: &Case, zeros: &[u8]) -> Outcome {
         Call::SliceAt { slice } => kept(slice_answer(main, slice)),
         Call::PositionOf { index } => kept(position_answer(main, index)),
         Call::Swap => match rules::swap(main, other) {
-            Ok((main, other)) => Outcome { answer: reply(Ok((0, 0))), main, other },
+            Ok((main, other)) => Outcome { main, other, ..kept(reply(Ok((0, 0)))) },
             Err(no) => kept(reply(Err(no))),
         },
+        Call::Turn { axes, reverse, .. } => {
+            let done = turn::turn(main, other, &Turn::named(axes, reverse), case.room());
+            let answer = turned_answer(&done);
+            match done {
+                Ok((file, image)) => {
+                    let rooms = [over(case.rooms[0].own(), &file), over(case.rooms[1].own(), &image)];
+                    Outcome { answer, main: main.clone(), other: own.to_vec(), rooms }
+                }
+                Err(_) => kept(answer),
+            }
+        }
         Call::Append { file_len, code } => edited(file_len, Edit::Append { code, payload: other }),
         Call::Replace { file_len, number, code } => edited(file_len, Edit::Replace { number, code, payload: other }),
         Call::Remove { file_len, number } => edited(file_len, Edit::Remove { number }),
@@ -106,16 +139,32 @@ fn by_rules(case: &Case, zeros: &[u8]) -> Outcome {
 struct Memory {
     main: Area,
     other: Area,
+    rooms: [Area; 2],
     zeros: &'static [u8],
     closed: *mut u8,
     tall: Tall,
+}
+
+/// A pointer and a length for the call.
+type Buffer = (*mut u8, usize);
+
+/// Lends a buffer; own bytes lie in the area.
+fn lend(area: &mut Area, other: &Other, at: Where, zeros: &[u8], closed: *mut u8) -> (Lent, Buffer) {
+    let own = other.own();
+    let lent = area.lend(own, if own.is_empty() && at != Where::Null { Where::Back } else { at });
+    let buffer = match *other {
+        Other::Own(_) => (lent.pointer, lent.length),
+        Other::Zeros(length) => (zeros.as_ptr() as *mut u8, length),
+        Other::Closed(length) => (closed, length),
+    };
+    (lent, buffer)
 }
 
 /// Calls the library.
 ///
 /// # Safety
 /// Each pointer has as many bytes as the length beside it.
-unsafe fn call(call: Call, main: *mut u8, length: usize, other: *mut u8, other_len: usize) -> Answer {
+unsafe fn call(call: Call, (main, length): Buffer, (other, other_len): Buffer, rooms: [Buffer; 2]) -> Answer {
     match call {
         Call::Read => Answer::File(vestumbral_read(main, length)),
         Call::ExtensionAt { number } => Answer::Extension(vestumbral_extension_at(main, length, number)),
@@ -130,7 +179,50 @@ unsafe fn call(call: Call, main: *mut u8, length: usize, other: *mut u8, other_l
             Answer::Reply(vestumbral_replace(main, length, file_len, number, code, other, other_len))
         }
         Call::Remove { file_len, number } => Answer::Reply(vestumbral_remove(main, length, file_len, number)),
+        Call::Turn { axes: [a, b, c], reverse: [p, q, r], .. } => {
+            let [(out, out_len), (out_image, out_image_len)] = rooms;
+            Answer::Turned(vestumbral_turn(
+                main, length, other, other_len, a, b, c, p, q, r, out, out_len, out_image, out_image_len,
+            ))
+        }
     }
+}
+
+/// The library as the laws of a turn ask it.
+const LIBRARY: Engine = Engine {
+    turn: |file, image, turn| {
+        let (mut out, mut out_image) = (vec![0; file.len()], vec![0; image.len()]);
+        let buffer = |bytes: &[u8]| (bytes.as_ptr() as *mut u8, bytes.len());
+        let rooms = [(out.as_mut_ptr(), out.len()), (out_image.as_mut_ptr(), out_image.len())];
+        let asked = Call::Turn { axes: turn.axes, reverse: turn.reversed.map(u64::from), next: *turn };
+        let answer = unsafe { call(asked, buffer(file), buffer(image), rooms) };
+        (answer.refusal() == 0).then_some((out, out_image))
+    },
+    swap: |file, image| {
+        let (mut file, mut image) = (file.to_vec(), image.to_vec());
+        let answer = unsafe { vestumbral_swap(file.as_mut_ptr(), file.len(), image.as_mut_ptr(), image.len()) };
+        (answer.refusal == 0).then_some((file, image))
+    },
+};
+
+/// Counts which of a turn's refusals hold together, and tries the laws where none does.
+fn turn_difference(case: &Case, counts: &mut Counts) -> Option<String> {
+    let Call::Turn { axes, reverse, next } = case.call else {
+        return None;
+    };
+    let turn = Turn::named(axes, reverse);
+    let faults = turn::faults(&case.main, case.other.length() as u64, &turn, case.room());
+    for (i, first) in faults.iter().enumerate() {
+        for second in &faults[i + 1..] {
+            *counts.together.entry((first.number, second.number)).or_default() += 1;
+        }
+    }
+    if !faults.is_empty() {
+        return None;
+    }
+    let pair = rules::read(&case.main).is_ok_and(|known| known.pair);
+    let old = (case.main.clone(), if pair { case.other.own().to_vec() } else { Vec::new() });
+    turn_laws::broken(&LIBRARY, &old, &turn, &next, &mut counts.tried).map(|law| format!("{law}; the next turn is {next:?}"))
 }
 
 /// How the two buffers differ, in words; none where they are equal.
@@ -144,26 +236,25 @@ fn buffer_difference(name: &str, rules: &[u8], library: &[u8], guards_kept: bool
 /// How the library differs from the rules.
 fn compare(case: &Case, memory: &mut Memory, counts: &mut Counts) -> Option<String> {
     let expected = by_rules(case, memory.zeros);
+    let (zeros, closed) = (memory.zeros, memory.closed);
     let main = memory.main.lend(&case.main, case.main_at);
-    let own = match &case.other {
-        Other::Own(bytes) => bytes.as_slice(),
-        _ => &[],
-    };
-    let lent = memory.other.lend(own, if own.is_empty() && case.other_at != Where::Null { Where::Back } else { case.other_at });
-    let (other, other_len) = match case.other {
-        Other::Own(_) => (lent.pointer, lent.length),
-        Other::Zeros(length) => (memory.zeros.as_ptr() as *mut u8, length),
-        Other::Closed(length) => (memory.closed, length),
-    };
-    let answer = unsafe { call(case.call, main.pointer, main.length, other, other_len) };
+    let (lent, other) = lend(&mut memory.other, &case.other, case.other_at, zeros, closed);
+    let [(out, out_buffer), (out_image, out_image_buffer)] =
+        [0, 1].map(|i: usize| lend(&mut memory.rooms[i], &case.rooms[i], case.rooms_at[i], zeros, closed));
+    let answer = unsafe { call(case.call, (main.pointer, main.length), other, [out_buffer, out_image_buffer]) };
     counts.add(call_number(&case.call), expected.answer.refusal());
     if answer != expected.answer {
         return Some(format!("\n  rules   {:?}\n  library {:?}", expected.answer, answer));
     }
-    buffer_difference("buffer", &expected.main, memory.main.content(&main), memory.main.guards_kept(&main))
-        .or_else(|| {
-            buffer_difference("other buffer", &expected.other, memory.other.content(&lent), memory.other.guards_kept(&lent))
-        })
+    let lent = [
+        ("buffer", &expected.main, &memory.main, main),
+        ("other buffer", &expected.other, &memory.other, lent),
+        ("out", &expected.rooms[0], &memory.rooms[0], out),
+        ("out_image", &expected.rooms[1], &memory.rooms[1], out_image),
+    ];
+    lent.iter()
+        .find_map(|(name, rules, area, lent)| buffer_difference(name, rules, area.content(lent), area.guards_kept(lent)))
+        .or_else(|| turn_difference(case, counts))
         .or_else(|| pieces::difference(memory.main.content(&main), &case.feeding, &mut memory.other, &mut memory.tall, counts))
 }
 
@@ -181,20 +272,25 @@ fn hex(bytes: &[u8]) -> String {
 }
 
 fn show(case: &Case) -> String {
-    let other = match &case.other {
+    let content = |other: &Other| match other {
         Other::Own(bytes) => hex(bytes),
         Other::Zeros(length) => format!("{length} zero bytes"),
         Other::Closed(length) => format!("{length} bytes that can't be read"),
     };
-    format!(
+    let mut text = format!(
         "  {:?}\n  file or buffer ({:?}): {}\n  image or payload ({:?}): {}\n  in pieces: {:?}",
         case.call,
         case.main_at,
         hex(&case.main),
         case.other_at,
-        other,
+        content(&case.other),
         case.feeding
-    )
+    );
+    if matches!(case.call, Call::Turn { .. }) {
+        let [out, out_image] = &case.rooms;
+        text += &format!("\n  out {:?}: {}\n  out_image: {}", case.rooms_at, content(out), content(out_image));
+    }
+    text
 }
 
 /// The case with its pieces joined and its bytes cleared, wherever a difference stays.
@@ -239,8 +335,10 @@ fn reduce(case: &Case, memory: &mut Memory) -> Case {
     least
 }
 
-const CALLS: [&str; 12] =
-    ["read", "extension", "voxel", "slice", "position", "swap", "append", "replace", "remove", "take", "pieces", "pieces_ext"];
+const CALLS: [&str; 13] = [
+    "read", "extension", "voxel", "slice", "position", "swap", "append", "replace", "remove", "take", "pieces", "pieces_ext",
+    "turn",
+];
 const PIECES_TAKE: usize = 9;
 const PIECES_FILE: usize = 10;
 const PIECES_EXTENSION: usize = 11;
@@ -257,6 +355,7 @@ fn possible(call: usize) -> Vec<usize> {
         "append" => &[19, 20, 21, 22, 24],
         "replace" => &[18, 19, 21, 22, 24],
         "remove" => &[18, 24],
+        "turn" => &[16, 22, 23, 29, 30],
         _ => &[],
     };
     (1..=15).chain(more.iter().copied()).collect()
@@ -273,35 +372,64 @@ fn call_number(call: &Call) -> usize {
         Call::Append { .. } => 6,
         Call::Replace { .. } => 7,
         Call::Remove { .. } => 8,
+        Call::Turn { .. } => 12,
     }
 }
 
-const REFUSALS: usize = 25;
+const REFUSALS: usize = 30;
 
-/// How often each refusal, 0 for done, was reached by each call.
+/// What was reached.
 #[derive(Default)]
-struct Counts([[u64; REFUSALS + 1]; CALLS.len()]);
+struct Counts {
+    /// How often each refusal, 0 for done, was given by each call.
+    given: [[u64; REFUSALS + 1]; CALLS.len()],
+    /// How often two refusals of a turn held together, the one that is tried first before the other.
+    together: BTreeMap<(u64, u64), u64>,
+    /// How often the laws of a turn were tried.
+    tried: Tried,
+}
+
+/// The refusals of a turn that may hold together: of two the one that is tried first, and the other.
+fn conflicts() -> Vec<(u64, u64)> {
+    let order = [16, 29, 30, 23, 22];
+    let own = order.iter().enumerate().flat_map(|(i, &first)| order[i + 1..].iter().map(move |&second| (first, second)));
+    own.chain((1..=15).flat_map(|first| [(first, 30), (first, 22)])).collect()
+}
 
 impl Counts {
     fn add(&mut self, call: usize, refusal: u64) {
-        self.0[call][refusal as usize] += 1;
+        self.given[call][refusal as usize] += 1;
     }
 
     fn print(&self) {
         println!("{:>9} {:>10}  by call: {}", "refusal", "answers", CALLS.map(|call| format!("{call:>11}")).concat());
-        for number in 0..=REFUSALS {
+        for number in (0..=REFUSALS).filter(|&number| number == 0 || (0..CALLS.len()).any(|call| possible(call).contains(&number)))
+        {
             let name = if number == 0 { "none".to_string() } else { number.to_string() };
-            let by_call = self.0.map(|row| format!("{:>11}", row[number])).concat();
-            println!("{name:>9} {:>10}           {by_call}", self.0.iter().map(|row| row[number]).sum::<u64>());
+            let by_call = self.given.map(|row| format!("{:>11}", row[number])).concat();
+            println!("{name:>9} {:>10}           {by_call}", self.given.iter().map(|row| row[number]).sum::<u64>());
         }
+        let pairs: Vec<String> =
+            self.together.iter().map(|((first, second), count)| format!("{first} {second}: {count}")).collect();
+        println!("two refusals of a turn, the first given: {}", pairs.join(", "));
+        let Tried { back, composed, swapped } = self.tried;
+        println!("laws of a turn: {back} turned back, {composed} composed, {swapped} swapped");
     }
 
-    /// Which refusals were never reached.
+    /// Which refusals were never reached, alone or before another, and which laws were never tried.
     fn missing(&self) -> Vec<String> {
         let all = (0..CALLS.len()).flat_map(|call| possible(call).into_iter().map(move |number| (call, number)));
-        all.filter(|&(call, number)| self.0[call][number] == 0)
-            .map(|(call, number)| format!("{number} by {}", CALLS[call]))
-            .collect()
+        let given = all
+            .filter(|&(call, number)| self.given[call][number] == 0)
+            .map(|(call, number)| format!("{number} by {}", CALLS[call]));
+        let together = conflicts()
+            .into_iter()
+            .filter(|pair| !self.together.contains_key(pair))
+            .map(|(first, second)| format!("{first} before {second} by turn"));
+        let Tried { back, composed, swapped } = self.tried;
+        let laws = [(back, "a turn back"), (composed, "a composed turn"), (swapped, "a turn and a swap")];
+        let tried = laws.into_iter().filter(|law| law.0 == 0).map(|law| law.1.to_string());
+        given.chain(together).chain(tried).collect()
     }
 }
 
@@ -346,7 +474,8 @@ fn main() {
     memory::watch();
     let area = || Area::new(cases::LARGEST);
     let (zeros, closed) = (memory::zeros(cases::ZEROS), memory::closed(cases::CLOSED));
-    let mut memory = Memory { main: area(), other: area(), zeros, closed, tall: Tall::new(cases::TALLEST) };
+    let rooms = [area(), area()];
+    let mut memory = Memory { main: area(), other: area(), rooms, zeros, closed, tall: Tall::new(cases::TALLEST) };
     let mut counts = Counts::default();
     let mut differences = 0;
     let numbers = options.only.map_or(0..options.cases, |only| only..only + 1);
@@ -369,7 +498,7 @@ fn main() {
         counts.print();
         let missing = counts.missing();
         if !missing.is_empty() {
-            println!("refusals never reached: {}", missing.join(", "));
+            println!("never reached: {}", missing.join(", "));
         }
         println!("differential: {} cases, {differences} differences", options.cases);
         std::process::exit((differences > 0 || !missing.is_empty()) as i32);
