@@ -16,6 +16,7 @@ mod self_check;
 mod turn;
 mod turn_cases;
 mod turn_laws;
+mod wrong_turns;
 
 use cases::{Call, Case, Feeding, Other, Piece};
 use library::*;

@@ -1,11 +1,14 @@
 //! The second implementation held to values worked out by hand: the numbers of 01-scope.md ("Numbers on each side"), the timing
 //! table of source document 004, the examples of document 002, and the borders that docs/DECISIONS.md settles. Then laws that any
-//! right implementation obeys, on files made at random.
+//! right implementation obeys, on files made at random, and wrong programs that the comparison's cases must notice.
 
 use crate::cases;
 use crate::files::{extension, file_a, Header, EXTENSIONS, NO_EXTENSIONS, OFFSET_352};
 use crate::pieces::twin;
 use crate::rules::*;
+use crate::turn::{came_from, faults, reversed_row, turn, Turn};
+use crate::turn_laws::{broken, Both, Engine, Tried};
+use crate::{case, memory, turn_cases, wrong_turns};
 use std::fmt::Debug;
 
 #[derive(Default)]
@@ -383,6 +386,162 @@ fn edits(checks: &mut Checks) {
     checks.equal("the middle replaced", edit(&three, 416, &middle), Ok((replaced, 400)));
 }
 
+/// Axes 2 1 3 with old axis 2 reversed, which is a quarter of a turn about axis 3, and that turn back.
+const QUARTER: Turn = Turn { axes: [2, 1, 3], reversed: [false, true, false] };
+const QUARTER_BACK: Turn = Turn { axes: [2, 1, 3], reversed: [true, false, false] };
+const SAME: Turn = Turn { axes: [1, 2, 3], reversed: [false; 3] };
+
+/// The volume of 3 x 2 x 2 bytes that examples/turn.c turns, with dim_info, slice_code and pixdim 0 and 4 too. Voxel (i, j, k)
+/// holds 100 i + 10 j + k.
+fn volume(order: Order, pair: bool) -> Header {
+    let mut header = Header::new(order, pair).dims(&[3, 2, 2]).datatype(2).offset(if pair { 0x4040_0000 } else { OFFSET_352 });
+    header.bytes[39] = 0x39;
+    header.bytes[122] = 3;
+    header.set16(252, 1);
+    header.set16(254, 1);
+    (0..5).for_each(|i| header.set32(76 + 4 * i, [-1.0_f32, 3.0, 6.0, 9.0, 0.5][i].to_bits()));
+    with_rows(header, [[2.0, 4.0, -3.0, -10.0], [-1.0, 4.0, 6.0, -20.0], [2.0, -2.0, 6.0, -30.0]])
+}
+
+fn with_rows(mut header: Header, rows: [[f32; 4]; 3]) -> Header {
+    rows.iter().flatten().enumerate().for_each(|(i, number)| header.set32(280 + 4 * i, number.to_bits()));
+    header
+}
+
+const VOXELS: [u8; 12] = [0, 100, 200, 10, 110, 210, 1, 101, 201, 11, 111, 211];
+const TURNED: [u8; 12] = [10, 0, 110, 100, 210, 200, 11, 1, 111, 101, 211, 201];
+
+/// The volume's header after the quarter turn.
+fn turned_volume(order: Order, pair: bool) -> Header {
+    let mut header = volume(order, pair).dims(&[2, 3, 2]);
+    header.bytes[39] = 0;
+    header.bytes[122] = 0;
+    header.set16(252, 0);
+    header.set32(80, 6_f32.to_bits());
+    header.set32(84, 3_f32.to_bits());
+    with_rows(header, [[-4.0, 2.0, -3.0, -6.0], [-4.0, -1.0, 6.0, -16.0], [2.0, 2.0, 6.0, -32.0]])
+}
+
+/// Into buffers that are long enough.
+fn turned(file: &[u8], image: &[u8], by: &Turn) -> Result<Both, Refusal> {
+    turn(file, image, by, [file.len() as u64, image.len() as u64])
+}
+
+fn turns(checks: &mut Checks) {
+    for order in [BIG, LITTLE] {
+        let note = extension(order, 32, 6, &[0x2e; 24]);
+        let single = |header: Header, voxels: &[u8]| {
+            header.offset(384_f32.to_bits()).file(&[&EXTENSIONS, &note, voxels, b"after the image"])
+        };
+        let (file, after) = (single(volume(order, false), &VOXELS), single(turned_volume(order, false), &TURNED));
+        checks.equal("a quarter turn", turned(&file, &[], &QUARTER), Ok((after.clone(), Vec::new())));
+        checks.equal("its image argument", turned(&file, b"unused", &QUARTER), Ok((after.clone(), Vec::new())));
+        let mut back = file.clone();
+        [39, 122, 252, 253].iter().for_each(|&at| back[at] = 0);
+        checks.equal("turned back", turned(&after, &[], &QUARTER_BACK), Ok((back.clone(), Vec::new())));
+        checks.equal("a turn that changes nothing", turned(&file, &[], &SAME), Ok((back, Vec::new())));
+        let pair = |header: Header| header.file(&[&NO_EXTENSIONS, b"private"]);
+        let image = |voxels: &[u8]| [b"at3", voxels, b"tail"].concat();
+        let both = (pair(turned_volume(order, true)), image(&TURNED));
+        checks.equal("a pair's quarter turn", turned(&pair(volume(order, true)), &image(&VOXELS), &QUARTER), Ok(both));
+    }
+    let half = Turn { axes: [1, 2, 3], reversed: [true, true, false] };
+    checks.equal("two quarters", QUARTER.then(&QUARTER), half);
+    checks.equal("a quarter and its inverse", [QUARTER.then(&QUARTER_BACK), QUARTER_BACK.then(&QUARTER)], [SAME; 2]);
+    checks.equal("the inverse", QUARTER.back(), QUARTER_BACK);
+    let round = Turn { axes: [2, 3, 1], reversed: [true, false, false] };
+    let round_back = Turn { axes: [3, 1, 2], reversed: [false, false, true] };
+    checks.equal("the inverse of three axes", (round.back(), round_back.back()), (round_back, round));
+    let lengths = [5, 6, 7, 2, 3, 1, 1];
+    checks.equal("where a voxel came from", came_from(&round, lengths, [1, 2, 3, 1, 2, 0, 0]), [1, 1, 2, 1, 2, 0, 0]);
+    turned_rows(checks);
+    turn_refusals(checks);
+}
+
+fn turned_rows(checks: &mut Checks) {
+    let bits = |row: [f32; 4]| row.map(f32::to_bits);
+    let row = |row, lengths, reversed| bits(reversed_row(row, lengths, reversed));
+    let first = [true, false, false];
+    checks.equal("no axis", row([1.0, -0.0, 3.0, -0.0], [4, 4, 4], [false; 3]), bits([1.0, -0.0, 3.0, -0.0]));
+    checks.equal("one voxel", row([5.0, 0.0, 3.0, -0.0], [1, 1, 1], [true, true, false]), bits([-5.0, -0.0, 3.0, 0.0]));
+    checks.equal("-0 stays", row([-5.0, 2.0, 3.0, -0.0], [1, 1, 1], first), bits([5.0, 2.0, 3.0, -0.0]));
+    // 3 x (1 + 2^-23) is rounded to 3 + 2^-21 before 3 is taken away
+    let rounded = [-f32::from_bits(0x3f80_0001), 0.0, 0.0, f32::from_bits(0x3500_0000)];
+    checks.equal("the product is rounded", row([f32::from_bits(0x3f80_0001), 0.0, 0.0, -3.0], [4, 1, 1], first), bits(rounded));
+    // 2^24 + 1 is rounded to 2^24
+    let sum = [-1.0, -2.0, 0.0, 16_777_218.0];
+    checks.equal("the sum is rounded", row([1.0, 2.0, 0.0, 16_777_216.0], [2, 2, 1], [true, true, false]), bits(sum));
+    let other_sum = [-2.0, -1.0, 0.0, 16_777_220.0];
+    checks.equal("in the old order", row([2.0, 1.0, 0.0, 16_777_216.0], [2, 2, 1], [true, true, false]), bits(other_sum));
+}
+
+fn turn_refusals(checks: &mut Checks) {
+    let image = &[7; 15];
+    let rows = |row| with_rows(volume(LITTLE, true), [[1.0, 2.0, 3.0, 4.0], row, [1.0, 2.0, 3.0, 4.0]]).bytes;
+    let file = volume(LITTLE, true).bytes;
+    let by = |file: &[u8], by: Turn| turned(file, image, &by);
+    for axes in [[1, 2, 2], [3, 2, 3], [0, 1, 2], [2, 3, 4], [1, 2, 257], [1, 2, u64::MAX]] {
+        checks.refused("not a permutation", by(&file, Turn { axes, ..QUARTER }), 30, 0);
+    }
+    checks.refused("two dims", by(&volume(BIG, true).dims(&[3, 2]).bytes, QUARTER), 29, 0);
+    checks.holds("three dims", by(&file, QUARTER).is_ok());
+    let most = f32::MAX;
+    checks.holds("the most", by(&rows([0.0, most, 0.0, 0.0]), QUARTER).is_ok());
+    checks.holds("the most is not passed", by(&rows([0.0, most, 0.0, -most]), QUARTER).is_ok());
+    checks.holds("another axis", by(&rows([most, 0.0, 0.0, most]), QUARTER).is_ok());
+    checks.refused("an infinite sum", by(&rows([0.0, most, 0.0, most]), QUARTER), 23, 0);
+    let first = Turn { reversed: [true, false, false], ..SAME };
+    checks.refused("an infinite product", by(&rows([most, 0.0, 0.0, 0.0]), first), 23, 0);
+    let both = Turn { reversed: [true, true, false], ..SAME };
+    checks.refused("infinite on the way", by(&rows([most / 2.0, -most, 0.0, most]), both), 23, 0);
+    for bad in [f32::NAN, f32::INFINITY, f32::NEG_INFINITY] {
+        let file = rows([1.0, 2.0, 3.0, bad]);
+        checks.refused("not finite before", by(&file, SAME), 23, 0);
+        for code in [[0, 0], [0xff, 0xff], [0, 0x80]] {
+            let file = changed(file.clone(), 254, &code);
+            let kept = by(&file, both).map(|new| new.0[280..328] == file[280..328]);
+            checks.equal("rows that no sform uses stay", kept, Ok(true));
+        }
+    }
+    checks.refused("image file one short", turned(&file, &image[..14], &QUARTER), 16, 0);
+    checks.refused("file one short", turn(&file, image, &QUARTER, [347, 15]), 22, 0);
+    checks.refused("image one short", turn(&file, image, &QUARTER, [348, 14]), 22, 0);
+    checks.refused("tail one short", turn(&file, &[7; 16], &QUARTER, [348, 15]), 22, 0);
+    let single = volume(BIG, false).file(&[&NO_EXTENSIONS, &VOXELS]);
+    checks.holds("a single file needs no second buffer", turn(&single, image, &QUARTER, [364, 0]).is_ok());
+    let every = with_rows(volume(LITTLE, true).dims(&[3, 2]), [[f32::NAN; 4]; 3]).bytes;
+    let numbers: Vec<u64> = faults(&every, 8, &Turn { axes: [1, 1, 3], ..SAME }, [0, 0]).iter().map(|no| no.number).collect();
+    checks.equal("all at once, in order", numbers, vec![16, 29, 30, 23, 22]);
+    checks.refused("reading first", turn(&every[..347], &[], &Turn { axes: [1, 1, 3], ..SAME }, [0, 0]), 1, 0);
+    checks.refused("with its place", turn(&changed(file, 344, b"nil\0"), &[], &QUARTER, [0, 0]), 4, 344);
+}
+
+/// The second implementation as the laws of a turn ask it.
+const RULES: Engine = Engine { turn: |file, image, by| turned(file, image, by).ok(), swap: |file, image| swap(file, image).ok() };
+
+/// The laws of a turn on random files, and the wrong programs on cases of the comparison.
+fn turn_laws(checks: &mut Checks) {
+    let mut tried = Tried::default();
+    for number in 0..1500 {
+        let random = &mut cases::Random::new(8, number);
+        let file = turn_cases::file(random);
+        let Some(known) = read(&file).ok().filter(|known| known.offset + known.image_bytes <= 1 << 14) else {
+            continue;
+        };
+        let length = if known.pair { known.offset + known.image_bytes + number % 3 } else { 0 };
+        let old = (file, random.bytes(length as usize));
+        let [first, next] = [0, 0].map(|_| turn_cases::numbered(random.below(turn_cases::TURNS)));
+        checks.equal("laws of a turn", broken(&RULES, &old, &first, &next, &mut tried), None);
+    }
+    checks.holds("enough turns", [tried.back, tried.composed, tried.swapped].iter().all(|&count| count > 500));
+    let zeros = memory::zeros(cases::ZEROS);
+    let random = cases::FIXED..cases::FIXED + 20_000;
+    let fixed = cases::FIXED - turn_cases::FIXED..cases::FIXED - turn_cases::LARGE;
+    for (name, count) in wrong_turns::noticed(fixed.step_by(5).chain(random).map(|number| case(1, number, zeros))) {
+        checks.holds(name, count > 0);
+    }
+}
+
 /// Laws on random files: bytes that a state may not keep change nothing that is read, a swap twice restores, an edit's result is
 /// accepted and keeps every voxel, removing the extension just appended restores the file, and the voxels' ranges fill the image.
 fn laws(checks: &mut Checks) {
@@ -438,7 +597,8 @@ fn voxels_fill(known: &Known, file: &[u8], image: &[u8]) -> bool {
 
 pub fn run() {
     let mut checks = Checks::default();
-    for part in [file_a_numbers, offsets, images, headers, extensions, pieces, slices, positions, swaps, edits, laws] {
+    let values = [file_a_numbers, offsets, images, headers, extensions, pieces, slices, positions, swaps, edits, turns];
+    for part in values.into_iter().chain([laws as fn(&mut Checks), turn_laws]) {
         part(&mut checks);
     }
     println!("self-check: {} checks, {} failed", checks.done, checks.failed);
