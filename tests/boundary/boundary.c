@@ -20,6 +20,7 @@ _Static_assert(sizeof(vestumbral_position) == 32 && offsetof(vestumbral_position
 _Static_assert(sizeof(vestumbral_pieces) == 896 && offsetof(vestumbral_pieces, at) == 360, "pieces");
 _Static_assert(offsetof(vestumbral_pieces, coming) == 376 && offsetof(vestumbral_pieces, marks[63].code) == 892, "pieces");
 _Static_assert(sizeof(vestumbral_taken) == 912 && offsetof(vestumbral_taken, pieces) == 16, "taken");
+_Static_assert(sizeof(vestumbral_turned) == 32 && offsetof(vestumbral_turned, image_length) == 24, "turned");
 
 static unsigned checks, failed;
 
@@ -44,6 +45,16 @@ static int done(vestumbral_reply reply, uint64_t place, uint64_t length)
 static int refused(vestumbral_reply reply, uint64_t refusal)
 {
     return reply.refusal == refusal && reply.place == 0 && reply.length == 0;
+}
+
+static int turned(vestumbral_turned answer, uint64_t length, uint64_t image_length)
+{
+    return answer.refusal == 0 && answer.place == 0 && answer.length == length && answer.image_length == image_length;
+}
+
+static int not_turned(vestumbral_turned answer, uint64_t refusal)
+{
+    return answer.refusal == refusal && answer.place == 0 && answer.length == 0 && answer.image_length == 0;
 }
 
 static int all(const uint8_t *bytes, uint8_t value, size_t length)
@@ -132,6 +143,8 @@ static void too_short(uint8_t *bytes, size_t length)
     CHECK(refused(vestumbral_append(bytes, length, length + 1, 0, NULL, 0), 24));
     CHECK(refused(vestumbral_replace(bytes, length, UINT64_MAX, 0, 0, NULL, 0), 24));
     CHECK(refused(vestumbral_remove(bytes, length, length + 1, 0), 24));
+    CHECK(not_turned(vestumbral_turn(bytes, length, NULL, 0, 1, 2, 3, 0, 0, 0, NULL, 0, NULL, 0), 1));
+    CHECK(not_turned(vestumbral_turn(bytes, length, bytes, length, 1, 1, 4, 0, 0, 0, NULL, 0, NULL, 0), 1));
     vestumbral_pieces pieces = fed(vestumbral_pieces_start(), bytes, length);
     as_whole(pieces, bytes, length, 0);
     as_whole(fed(pieces, bytes, 0), bytes, length, UINT64_MAX);
@@ -373,6 +386,148 @@ static void positions(enum source source)
     give_back(source, file, 348);
 }
 
+/* Every turn of 2 x 3 x 4 voxels in memory of exactly their length, for each width that a voxel has. */
+static void turns_of_each_width(enum source source)
+{
+    static const int types[][2] = {{2, 8}, {4, 16}, {128, 24}, {16, 32}, {64, 64}, {1536, 128}, {2048, 256}};
+    static const uint64_t orders[][3] = {{1, 2, 3}, {1, 3, 2}, {2, 1, 3}, {2, 3, 1}, {3, 1, 2}, {3, 2, 1}};
+    static const unsigned dims[3] = {2, 3, 4};
+    for (size_t t = 0; t < sizeof types / sizeof *types; t++) {
+        size_t width = types[t][1] / 8, length = 24 * width;
+        uint8_t *file = take(source, 348), *image = take(source, length);
+        uint8_t *out = take(source, 348), *out_image = take(source, length);
+        header(file, 1, (const int[]){3, 2, 3, 4}, types[t][0], types[t][1], 0);
+        for (size_t i = 0; i < length; i++)
+            image[i] = i * 7 + i / 256;
+        for (unsigned turn = 0; turn < 48; turn++) {
+            const uint64_t *axes = orders[turn / 8];
+            memset(out, 0xaa, 348);
+            memset(out_image, 0xaa, length);
+            vestumbral_turned answer = vestumbral_turn(file, 348, image, length, axes[0], axes[1], axes[2], turn & 1, turn & 2,
+                                                       turn & 4, out, 348, out_image, length);
+            CHECK(turned(answer, 348, length));
+            unsigned wrong = 0;
+            for (unsigned v = 0; v < 24; v++) {
+                unsigned n = dims[axes[0] - 1], m = dims[axes[1] - 1], at[3] = {v % n, v / n % m, v / n / m}, old[3];
+                for (int k = 0; k < 3; k++) {
+                    unsigned o = axes[k] - 1;
+                    old[o] = turn >> o & 1 ? dims[o] - 1 - at[k] : at[k];
+                }
+                wrong += memcmp(out_image + width * v, image + width * (old[0] + 2 * (old[1] + 3 * old[2])), width) != 0;
+            }
+            CHECK(wrong == 0);
+            for (int k = 0; k < 3; k++)
+                CHECK(out[42 + 2 * k] == dims[axes[k] - 1]);
+        }
+        give_back(source, file, 348);
+        give_back(source, image, length);
+        give_back(source, out, 348);
+        give_back(source, out_image, length);
+    }
+}
+
+/* A single file of 3 x 2 x 2 voxels, a quarter turn with old axis 2 reversed: exact fits and one byte short, NULL for the image. */
+static void turns(enum source source)
+{
+    static const uint8_t voxels[12] = {4, 1, 5, 2, 6, 3, 10, 7, 11, 8, 12, 9};
+    uint8_t *file = take(source, 370), *out = take(source, 370), *one = take(source, 1), before[370], after[370];
+    header(file, 0, (const int[]){3, 3, 2, 2}, 2, 8, float_bits(352));
+    put32(file + 348, 0);
+    for (int i = 0; i < 18; i++)
+        file[352 + i] = i + 1; /* six bytes after the image */
+    for (int i = 0; i < 4; i++)
+        put32(file + 76 + 4 * i, float_bits(i + 1));
+    file[39] = 0x39, file[122] = 3, file[252] = 1, file[254] = 1;
+    for (int i = 0; i < 12; i++)
+        put32(file + 280 + 4 * i, float_bits(i + 1));
+    memcpy(before, file, 370);
+    memcpy(after, file, 370);
+    put16(after + 42, 2);
+    put16(after + 44, 3);
+    put32(after + 80, float_bits(3));
+    put32(after + 84, float_bits(2));
+    after[39] = after[122] = after[252] = 0;
+    for (int row = 0; row < 3; row++) {
+        put32(after + 280 + 16 * row, float_bits(-4 * row - 2));
+        put32(after + 284 + 16 * row, float_bits(4 * row + 1));
+        put32(after + 292 + 16 * row, float_bits(8 * row + 6)); /* 4 row + 4 and the old column, 4 row + 2 */
+    }
+    memcpy(after + 352, voxels, 12);
+    *one = 0xaa;
+    memset(out, 0xaa, 370);
+    CHECK(not_turned(vestumbral_turn(file, 370, NULL, 0, 2, 1, 3, 0, 1, 0, NULL, 0, NULL, 0), 22));
+    CHECK(not_turned(vestumbral_turn(file, 370, NULL, 0, 2, 1, 3, 0, 1, 0, out, 369, NULL, 0), 22));
+    CHECK(not_turned(vestumbral_turn(file, 370, NULL, 0, 2, 1, 2, 0, 1, 0, out, 370, NULL, 0), 30));
+    CHECK(not_turned(vestumbral_turn(file, 370, NULL, 0, 0, 1, 2, 0, 1, 0, NULL, 0, NULL, 0), 30));
+    CHECK(not_turned(vestumbral_turn(file, 370, NULL, 0, UINT64_MAX, 1, 3, 0, 1, 0, out, 370, NULL, 0), 30));
+    CHECK(all(out, 0xaa, 370));
+    CHECK(turned(vestumbral_turn(file, 370, NULL, 0, 2, 1, 3, 0, 1, 0, out, 370, NULL, 0), 370, 0));
+    CHECK(memcmp(out, after, 370) == 0 && memcmp(file, before, 370) == 0);
+    memset(out, 0xaa, 370);
+    CHECK(turned(vestumbral_turn(file, 364, one, 1, 2, 1, 3, 0, UINT64_MAX, 0, out, 370, one, 1), 364, 0));
+    CHECK(memcmp(out, after, 364) == 0 && all(out + 364, 0xaa, 6) && *one == 0xaa);
+    put16(file + 40, 2); /* dim[0] */
+    CHECK(not_turned(vestumbral_turn(file, 370, NULL, 0, 1, 1, 1, 0, 0, 0, NULL, 0, NULL, 0), 29));
+    put16(file + 40, 3);
+    put32(file + 288, 0x7f800000); /* srow_x[2] */
+    CHECK(not_turned(vestumbral_turn(file, 370, NULL, 0, 1, 2, 3, 0, 0, 0, NULL, 0, NULL, 0), 23));
+    put16(file + 254, 0); /* sform_code */
+    CHECK(turned(vestumbral_turn(file, 370, NULL, 0, 1, 2, 3, 0, 0, 1, out, 370, NULL, 0), 370, 0));
+    CHECK(memcmp(out + 280, file + 280, 48) == 0);
+    REFUSED(vestumbral_turn(file, 363, NULL, 0, 1, 2, 3, 0, 0, 0, out, 370, NULL, 0), 11, 108);
+    give_back(source, file, 370);
+    give_back(source, out, 370);
+    give_back(source, one, 1);
+}
+
+/* A pair of 2 x 1 x 2 voxels of two bytes, one byte before its image and two after it, with axes 1 and 3 exchanged. */
+static void pair_turns(enum source source)
+{
+    static const uint8_t before[11] = {1, 2, 3, 4, 5, 6, 7, 8, 9, 10, 11}, after[11] = {1, 4, 5, 8, 9, 2, 3, 6, 7, 10, 11};
+    uint8_t *file = take(source, 348), *image = take(source, 11), *out = take(source, 348), *out_image = take(source, 11);
+    header(file, 1, (const int[]){3, 2, 1, 2}, 4, 16, 0x3f800000);
+    memcpy(image, before, 11);
+    memset(out, 0xaa, 348);
+    memset(out_image, 0xaa, 11);
+    CHECK(not_turned(vestumbral_turn(file, 348, NULL, 0, 3, 2, 1, 1, 0, 0, NULL, 0, NULL, 0), 16));
+    CHECK(not_turned(vestumbral_turn(file, 348, image, 8, 3, 2, 1, 1, 0, 0, out, 348, out_image, 11), 16));
+    CHECK(not_turned(vestumbral_turn(file, 348, image, 11, 3, 2, 3, 1, 0, 0, NULL, 0, NULL, 0), 30));
+    CHECK(not_turned(vestumbral_turn(file, 348, image, 11, 3, 2, 1, 1, 0, 0, NULL, 0, out_image, 11), 22));
+    CHECK(not_turned(vestumbral_turn(file, 348, image, 11, 3, 2, 1, 1, 0, 0, out, 348, NULL, 0), 22));
+    CHECK(not_turned(vestumbral_turn(file, 348, image, 11, 3, 2, 1, 1, 0, 0, out, 347, out_image, 11), 22));
+    CHECK(not_turned(vestumbral_turn(file, 348, image, 11, 3, 2, 1, 1, 0, 0, out, 348, out_image, 10), 22));
+    CHECK(all(out, 0xaa, 348) && all(out_image, 0xaa, 11));
+    CHECK(turned(vestumbral_turn(file, 348, image, 9, 3, 2, 1, 1, 0, 0, out, 348, out_image, 11), 348, 9));
+    CHECK(memcmp(out, file, 348) == 0 && memcmp(out_image, after, 9) == 0 && all(out_image + 9, 0xaa, 2));
+    CHECK(turned(vestumbral_turn(file, 348, image, 11, 3, 2, 1, 1, 0, 0, out, 348, out_image, 11), 348, 11));
+    CHECK(memcmp(out_image, after, 11) == 0 && memcmp(image, before, 11) == 0);
+    CHECK(turned(vestumbral_turn(out, 348, out_image, 11, 3, 2, 1, 0, 0, 1, file, 348, image, 11), 348, 11));
+    CHECK(memcmp(image, before, 11) == 0);
+    give_back(source, file, 348);
+    give_back(source, image, 11);
+    give_back(source, out, 348);
+    give_back(source, out_image, 11);
+}
+
+/* The longest image of a pair, in memory that may not be touched: a refusal looks at none of it. */
+static void longest_turn(void)
+{
+    const size_t longest = 1099511627776;
+    uint8_t *closed = mmap(NULL, 2 * longest, PROT_NONE, MAP_PRIVATE | MAP_ANONYMOUS | MAP_NORESERVE, -1, 0);
+    if (closed == MAP_FAILED) {
+        puts("boundary: no address space");
+        exit(2);
+    }
+    uint8_t file[348], out[348], *out_image = closed + longest;
+    header(file, 1, (const int[]){3, 16384, 16384, 4096}, 2, 8, 0);
+    CHECK(not_turned(vestumbral_turn(file, 348, closed, longest - 1, 1, 2, 3, 0, 0, 0, out, 348, out_image, longest), 16));
+    CHECK(not_turned(vestumbral_turn(file, 348, closed, longest, 3, 3, 3, 0, 0, 0, out, 348, out_image, longest), 30));
+    CHECK(not_turned(vestumbral_turn(file, 348, closed, longest, 3, 2, 1, 0, 0, 0, out, 347, out_image, longest), 22));
+    CHECK(not_turned(vestumbral_turn(file, 348, closed, longest, 3, 2, 1, 0, 0, 0, out, 348, out_image, longest - 1), 22));
+    CHECK(not_turned(vestumbral_turn(file, 348, closed, longest, 3, 2, 1, 0, 0, 0, out, 348, NULL, 0), 22));
+    munmap(closed, 2 * longest);
+}
+
 /*
  * A file with three extensions in pieces of every length up to its own, each in memory of its own; asked after each. Its payloads
  * and its image are a5, a byte that no number of a state has but `taken`.
@@ -454,6 +609,7 @@ int main(void)
     CHECK(one == 0x5c);
     image_limit();
     total();
+    longest_turn();
     for (enum source source = HEAP; source <= FENCE_BEFORE; source++) {
         uint8_t *byte = take(source, 1);
         *byte = 1;
@@ -469,6 +625,9 @@ int main(void)
         slices(source);
         positions(source);
         pieces_of_each_length(source);
+        turns(source);
+        pair_turns(source);
+        turns_of_each_width(source);
     }
     printf("boundary: %u checks, %u failed\n", checks, failed);
     return failed != 0;
