@@ -1,9 +1,9 @@
 /*
  * The calls in floating-point states that are not the default: each rounding mode, with flush-to-zero and denormals-are-zero, and
- * with every exception trapped. There read, extension_at, voxel, swap, the edits and the calls for pieces answer as in the default
- * state, leave the same bytes in every lent buffer, and do not touch the state: their only float is the vox_offset of an edit, a
- * multiple of 16 up to 2^27, which no state rounds. Slice times and positions are computed in the state, so the header asks for the
- * default; the lines that are printed show what another makes of one of each.
+ * with every exception trapped. There read, extension_at, voxel, swap, the edits, the calls for pieces and a turn without sform
+ * answer as in the default state, leave the same bytes in every lent buffer, and do not touch the state: their only float is the
+ * vox_offset of an edit, a multiple of 16 up to 2^27, which no state rounds. Slice times, positions and the srow numbers of a turn
+ * are computed in the state, so the header asks for the default; the lines that are printed show what another makes of one of each.
  */
 #include "../nifti.h"
 #include "vestumbral.h"
@@ -61,11 +61,11 @@ static void tell(const char *what, const void *bytes, size_t length)
 }
 
 enum { PAYLOAD = 100000, SMALL = 512, VOXELS = 24, PIECE = 256 };
-static uint8_t buffer[SMALL + 2 * PAYLOAD], payload[PAYLOAD], image[VOXELS];
+static uint8_t buffer[SMALL + 2 * PAYLOAD], payload[PAYLOAD], image[VOXELS], out[SMALL], out_image[VOXELS];
 
 /* Answers by value have no padding, so their bytes can be told. */
 _Static_assert(sizeof(vestumbral_reply) == 24 && sizeof(vestumbral_file) == 64 && sizeof(vestumbral_extension) == 32, "padding");
-_Static_assert(sizeof(vestumbral_taken) == 912, "padding");
+_Static_assert(sizeof(vestumbral_taken) == 912 && sizeof(vestumbral_turned) == 32, "padding");
 
 static void look(size_t length)
 {
@@ -156,21 +156,49 @@ static void offsets(void)
         }
 }
 
+/* Every turn of both kinds in both orders, as 3 x 2 x 1 voxels; sform_code is not above 0, and the srow numbers are moved alone. */
+static void turns(void)
+{
+    static const uint8_t orders[6][3] = {{1, 2, 3}, {1, 3, 2}, {2, 1, 3}, {2, 3, 1}, {3, 1, 2}, {3, 2, 1}};
+    for (int kind = 0; kind < 8; kind++) {
+        size_t length = start(kind & 1, kind & 1 ? 0 : 0x43b00000);
+        put16(buffer + 40, 3); /* dim[0] and dim[3] */
+        put16(buffer + 46, 1);
+        put16(buffer + 254, kind & 4 ? 0xffff : 0); /* sform_code */
+        if (kind & 2)
+            vestumbral_swap(buffer, length, image, sizeof image);
+        for (int turn = 0; turn < 48; turn++) {
+            const uint8_t *axes = orders[turn / 8];
+            memset(out, 0xa5, sizeof out);
+            memset(out_image, 0xa5, sizeof out_image);
+            vestumbral_turned answer = vestumbral_turn(buffer, length, image, sizeof image, axes[0], axes[1], axes[2], turn & 1,
+                                                       turn & 2, turn & 4, out, sizeof out, out_image, sizeof out_image);
+            if (answer.refusal != 0)
+                fail("a turn is refused");
+            tell("turn", &answer, sizeof answer);
+            tell("turn", out, sizeof out);
+            tell("turn", out_image, sizeof out_image);
+        }
+    }
+}
+
 static void all(void)
 {
     used = told = 0;
     unsigned before = _mm_getcsr();
     edits();
     offsets();
+    turns();
     tell("payload", payload, sizeof payload);
     if (_mm_getcsr() != before)
         fail("the state itself changed");
 }
 
-/* Slices of which each takes 0x00000c00, a subnormal, and a position of which the exact value is not a binary32. */
+/* Slices of which each takes 0x00000c00, a subnormal; a position, and a shift of axis 1 reversed, of which the exact value is not a
+ * binary32. */
 static void show(int next_rounding, int next_control)
 {
-    header(buffer, 1, (const int[]){3, 4, 4, 4}, 4, 16, 0);
+    header(buffer, 1, (const int[]){3, 4, 1, 4}, 2, 8, 0);
     buffer[39] = 3 << 4; /* dim_info */
     put16(buffer + 120, 3); /* slice_end */
     buffer[122] = 1; /* slice_code */
@@ -180,9 +208,14 @@ static void show(int next_rounding, int next_control)
     enter(next_rounding, next_control);
     vestumbral_slice slice = vestumbral_slice_at(buffer, 348, 1);
     vestumbral_position position = vestumbral_position_of(buffer, 348, 3, 0, 0);
+    vestumbral_turned turned = vestumbral_turn(buffer, 348, image, sizeof image, 1, 2, 3, 1, 0, 0, out, sizeof out, out_image,
+                                               sizeof out_image);
     enter(0, 0);
-    printf("environment: rounding %s, %s: slice state %d, time %08x; position %08x\n", roundings[next_rounding].name,
-           controls[next_control].name, (int)slice.state, float_bits(slice.seconds), float_bits(position.x));
+    if (turned.refusal != 0)
+        fail("a turn with sform is refused");
+    printf("environment: rounding %s, %s: slice state %d, time %08x; position %08x; turned shift %08x\n",
+           roundings[next_rounding].name, controls[next_control].name, (int)slice.state, float_bits(slice.seconds),
+           float_bits(position.x), get32(out + 292));
 }
 
 int main(void)
