@@ -16,6 +16,10 @@
  * The rows in pieces feed a file from a start, the state passed by value and kept by the caller, and ask what it is: of 64 MiB in
  * pieces of 256 bytes, nearly all of them voxels, the time of one piece; of a small file the time of it all. Beside them stand a
  * copy and a move of each piece, and beside the small file also the library's reading of the whole.
+ *
+ * The rows of a turn have a single file of 256 x 256 x 128 voxels and the time of one voxel: each order of the axes, with none
+ * reversed and with all three. Beside them stand plain C, a loop nest that reads in the same order, writes one voxel after another
+ * and copies the rest of the file, and a copy of the whole file. Then come the mean and the worst ratio.
  */
 #define _POSIX_C_SOURCE 200809L
 #include "../tests/nifti.h"
@@ -37,6 +41,9 @@ enum { VOXELS = 1000, VOXEL_CALLS = 5 };
 
 /* The bytes that the bridge delivers at a time, and the files of a round that come so. */
 enum { PIECE = 256, PIECE_CALLS = 400 };
+
+/* The axes of the volume that is turned, its voxels, and the bytes after its image. */
+enum { SIDE = 256, SLICES = 128, TURNED = SIDE * SIDE * SLICES, TAIL = 100, TURN_ROUNDS = 9 };
 
 /* The crate voxel_run: the farthest place among the first `count` voxels of axis 1. */
 uint64_t voxel_run_by_record(const uint8_t *file, size_t file_len, uint64_t count);
@@ -65,17 +72,18 @@ enum { LIBRARY, MEMCPY, MEMMOVE, PLAIN, WHOLE, WAYS };
 
 static void print_row(const char *name, const char *input, const double best[WAYS])
 {
-    printf("%-15s %-26s %14.1f", name, input, best[LIBRARY]);
+    printf("%-15s %-26s %14.*f", name, input, best[LIBRARY] < 10 ? 2 : 1, best[LIBRARY]);
     for (int w = MEMCPY; w < WAYS; w++)
         best[w] < INFINITY ? printf(" %9.2f", best[LIBRARY] / best[w]) : printf(" %9s", "-");
     printf("\n");
     fflush(stdout);
 }
 
-/* A call of a way does `parts` of what the row gives the time of. */
-static void row(const char *name, const char *input, way *const ways[WAYS], int rounds, int calls, int parts)
+/* The best time of each way. A call of a way does `parts` of what the time is of. */
+static void measure(double best[WAYS], way *const ways[WAYS], int rounds, int calls, int parts)
 {
-    double best[WAYS] = {INFINITY, INFINITY, INFINITY, INFINITY, INFINITY};
+    for (int w = 0; w < WAYS; w++)
+        best[w] = INFINITY;
     for (int round = 0; round < rounds; round++)
         for (int w = 0; w < WAYS; w++) {
             if (!ways[w])
@@ -86,6 +94,12 @@ static void row(const char *name, const char *input, way *const ways[WAYS], int 
             double each = (now() - start) / calls / parts;
             best[w] = each < best[w] ? each : best[w];
         }
+}
+
+static void row(const char *name, const char *input, way *const ways[WAYS], int rounds, int calls, int parts)
+{
+    double best[WAYS];
+    measure(best, ways, rounds, calls, parts);
     print_row(name, input, best);
 }
 
@@ -413,6 +427,88 @@ static void piece_rows(void)
     row("piece of 256", "64 MiB", skipping, LARGE_ROUNDS, 1, (file_len + PIECE - 1) / PIECE);
 }
 
+/* The turn of a row: the file is `work`, the library's goes to `other` and plain C's to `copy`. */
+static const uint8_t *shown;
+static uint64_t reverse;
+
+static void turned(vestumbral_turned answer)
+{
+    if (answer.refusal != 0 || answer.length != file_len)
+        fail("a turn is refused");
+}
+
+static void turn_library(void)
+{
+    turned(vestumbral_turn(work, file_len, NULL, 0, shown[0], shown[1], shown[2], reverse, reverse, reverse, other, ROOM, NULL, 0));
+}
+
+static void turn_plain(void)
+{
+    turned(plain_turn(work, file_len, NULL, 0, shown[0], shown[1], shown[2], reverse, reverse, reverse, copy, ROOM, NULL, 0));
+}
+
+static void file_copy(void)
+{
+    memcpy(copy, work, file_len);
+    sink = copy[file_len - 1];
+}
+
+/* Ratios of some rows: how many, their sum, the worst and its row. */
+struct ratios {
+    int count;
+    double sum, worst;
+    char input[48];
+};
+
+static void count_ratio(struct ratios *r, double ratio, const char *input)
+{
+    r->count++;
+    r->sum += ratio;
+    if (ratio > r->worst) {
+        r->worst = ratio;
+        strcpy(r->input, input);
+    }
+}
+
+static void turn_rows(void)
+{
+    static const uint8_t orders[6][3] = {{1, 2, 3}, {1, 3, 2}, {2, 1, 3}, {2, 3, 1}, {3, 1, 2}, {3, 2, 1}};
+    static const int types[4][2] = {{2, 8}, {4, 16}, {16, 32}, {64, 64}}, dims[4] = {3, SIDE, SIDE, SLICES};
+    static way *const ways[WAYS] = {turn_library, file_copy, NULL, turn_plain};
+    static const struct { int way; const char *name; } beside[2] = {{PLAIN, "plain C"}, {MEMCPY, "memcpy"}};
+    struct ratios ratios[2][5] = {0}; /* of each width, and then of all */
+    memset(other, 1, ROOM);
+    for (int t = 0; t < 4; t++) {
+        file_len = make(0, dims, types[t][0], types[t][1]) + TAIL;
+        for (int turn = 0; turn < 12; turn++) {
+            char input[48];
+            double best[WAYS];
+            shown = orders[turn / 2];
+            reverse = turn % 2;
+            snprintf(input, sizeof input, "%d-byte, %d %d %d%s", types[t][1] / 8, shown[0], shown[1], shown[2],
+                     reverse ? ", reversed" : "");
+            turn_library();
+            turn_plain();
+            if (memcmp(other, copy, file_len) != 0)
+                fail("plain C turns into another file");
+            measure(best, ways, TURN_ROUNDS, 1, TURNED);
+            print_row("turn", input, best);
+            for (int b = 0; b < 2; b++) {
+                count_ratio(&ratios[b][t], best[LIBRARY] / best[beside[b].way], input);
+                count_ratio(&ratios[b][4], best[LIBRARY] / best[beside[b].way], input);
+            }
+        }
+    }
+    for (int b = 0; b < 2; b++)
+        for (int t = 0; t < 5; t++) {
+            const struct ratios *r = &ratios[b][t];
+            char name[32] = "all widths";
+            if (t < 4)
+                snprintf(name, sizeof name, "%d-byte", types[t][1] / 8);
+            printf("turn / %s, %s: mean %.2f, worst %.2f (%s)\n", beside[b].name, name, r->sum / r->count, r->worst, r->input);
+        }
+}
+
 static uint32_t seed = 12345;
 
 static uint32_t chance(uint32_t below)
@@ -445,6 +541,26 @@ static void compare_pieces(size_t length, uint64_t n)
         fail("plain C reads another file or extension in pieces");
 }
 
+/* A turn of a file, most often one that has axes 1 to 3, into buffers that are most often long enough. */
+static void compare_turns(size_t length, const uint8_t *image, size_t image_len)
+{
+    enum { SIZE = 4096, IMAGE_SIZE = 512 };
+    static uint8_t outs[2][SIZE], images[2][IMAGE_SIZE];
+    static const uint8_t orders[8][3] = {{1, 2, 3}, {1, 3, 2}, {2, 1, 3}, {2, 3, 1}, {3, 1, 2}, {3, 2, 1}, {1, 2, 2}, {0, 1, 2}};
+    const uint8_t *o = orders[chance(8)];
+    const uint64_t flags = chance(8), p = flags & 1, q = flags & 2, r = flags & 4;
+    const size_t out_len = length + chance(20) - (length > 0 && chance(8) == 0);
+    const size_t image_out_len = chance(8) == 0 ? chance(IMAGE_SIZE) : image_len;
+    vestumbral_turned a = vestumbral_turn(work, length, image, image_len, o[0], o[1], o[2], p, q, r, outs[0], out_len, images[0],
+                                          image_out_len);
+    vestumbral_turned b = plain_turn(work, length, image, image_len, o[0], o[1], o[2], p, q, r, outs[1], out_len, images[1],
+                                     image_out_len);
+    if (memcmp(&a, &b, sizeof a) != 0)
+        fail("plain C answers another turn");
+    if (memcmp(outs[0], outs[1], SIZE) != 0 || memcmp(images[0], images[1], IMAGE_SIZE) != 0)
+        fail("plain C turns into another file");
+}
+
 /* Each reading call of a file, and then each that changes it in turn, by the library and by plain C. */
 static void compare_calls(size_t length)
 {
@@ -466,6 +582,7 @@ static void compare_calls(size_t length)
         fail("plain C answers another position");
     same_replies(vestumbral_voxel(work, length, images[0], image_len, i, j, k, 0, 0, 0, last),
                  plain_voxel(work, length, images[0], image_len, i, j, k, 0, 0, 0, last));
+    compare_turns(length, images[0], image_len);
     memcpy(other, work, SIZE);
     memcpy(images[1], images[0], IMAGE_SIZE);
     same_replies(vestumbral_swap(work, length, images[0], image_len), plain_swap(other, length, images[1], image_len));
@@ -518,8 +635,8 @@ int main(void)
         fail("no memory");
     fill();
     compare();
-    printf("ns of one call (of one voxel where %d are located, of one piece of 64 MiB), best of %d rounds (%d for 64 MiB), "
-           "buffers written first\n", VOXELS, SMALL_ROUNDS, LARGE_ROUNDS);
+    printf("ns of one call (of one voxel where %d are located and of a turn, of one piece of 64 MiB), best of %d rounds (%d for "
+           "64 MiB, %d for a turn), buffers written first\n", VOXELS, SMALL_ROUNDS, LARGE_ROUNDS, TURN_ROUNDS);
     printf("a ratio is the library's time over the other's\n");
     printf("%-15s %-26s %14s %9s %9s %9s %9s\n", "call", "input", "ns", "/memcpy", "/memmove", "/plain C", "/read");
     static const int counts[4] = {0, 1, 8, 64};
@@ -532,6 +649,8 @@ int main(void)
     swap_rows();
     slide_rows();
     piece_rows();
+    fill();
+    turn_rows();
     free(work);
     free(other);
     free(copy);

@@ -1,6 +1,6 @@
 /*
- * The library's thirteen calls written plainly in C (plain.c, and plain_pieces.c for the last four): same arguments, same answers,
- * same bytes left in every buffer.
+ * The library's fourteen calls written plainly in C (plain.c, plain_pieces.c for those of a file in pieces, plain_turn.c for the
+ * last): same arguments, same answers, same bytes left in every buffer.
  */
 #ifndef BENCH_PLAIN_H
 #define BENCH_PLAIN_H
@@ -23,5 +23,9 @@ vestumbral_pieces plain_pieces_start(void);
 vestumbral_taken plain_pieces_take(vestumbral_pieces pieces, const uint8_t *piece, size_t piece_len);
 vestumbral_file plain_pieces_file(vestumbral_pieces pieces);
 vestumbral_extension plain_pieces_extension_at(vestumbral_pieces pieces, uint64_t number);
+vestumbral_turned plain_turn(const uint8_t *file, size_t file_len, const uint8_t *image, size_t image_len,
+                             uint64_t axis1, uint64_t axis2, uint64_t axis3,
+                             uint64_t reverse1, uint64_t reverse2, uint64_t reverse3,
+                             uint8_t *out, size_t out_len, uint8_t *out_image, size_t out_image_len);
 
 #endif

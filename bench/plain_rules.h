@@ -1,6 +1,6 @@
 /*
- * Rules 1 to 15 of 01-scope.md in plain C, for plain.c and plain_pieces.c: judged in the order of their numbers, with the number
- * and the place of the first that holds.
+ * Rules 1 to 15 of 01-scope.md in plain C, for plain.c, plain_pieces.c and plain_turn.c: judged in the order of their numbers, with
+ * the number and the place of the first that holds.
  */
 #ifndef BENCH_PLAIN_RULES_H
 #define BENCH_PLAIN_RULES_H
