@@ -3,9 +3,10 @@
  *
  * The rules are those of the project's papers 01-scope.md and 02-change-requests.md; here is what a caller needs of them.
  *
- * Every call takes any bytes and any numbers, ends, and answers by value. There are no out-parameters, no global state, no
- * allocation and nothing to free. An answer begins with `refusal`, 0 for done, else a number of the table below, and `place`, the
- * place in the file that the refusal speaks of. After a refusal every lent buffer has the bytes that it had.
+ * Every call takes any bytes and any numbers, ends, and answers by value; what it writes goes to buffers that the caller lends.
+ * There is no global state, no allocation and nothing to free. An answer begins with `refusal`, 0 for done, else a number of the
+ * table below, and `place`, the place in the file that the refusal speaks of. After a refusal every lent buffer has the bytes that
+ * it had.
  *
  * A `file` is a whole single file, or the header file of a pair. An `image` is the image file of a pair. For a single file the
  * image arguments are neither read nor changed; pass NULL and 0. A call that fills an `out` answers how many bytes it wrote; all
