@@ -6,8 +6,8 @@ use native.Mathlib.Nat.{mul-one, mul-zero, zero-mul, add-mul, mul-comm, mul-asso
 use native.Mathlib.Nat.{mul-le-mul, le-trans, zero-lt-suc, mul-lt-mul-of-pos-right, lt-of-mul-lt-mul-right}
 use native.Mathlib.Omega.{arith}
 use lib.Dec.{T, ltb, ltb→lt, lt→ltb, nltb→le}
-use lib.IntN.{ℤ, pos, negsuc, negℤ, natAbs, _+ℤ_, _*ℤ_, negℤ-+ℤ, +ℤ-comm}
-use lib.Ieee.{Float, nan, inf, fin, binary32, up, down, unlike, round, sum, add, mul, ofInt}
+use lib.IntN.{ℤ, pos, negsuc, negℤ, natAbs, _+ℤ_, _*ℤ_, negℤ-+ℤ, negℤ-negℤ, +ℤ-comm}
+use lib.Ieee.{Float, nan, inf, fin, binary32, up, down, unlike, round, sum, add, mul, neg, ofInt}
 use lib.Ieee.Back.{round-whole}
 use lib.Ieee.Exact.{HasValue}
 use lib.Ieee.Fits.{down-pos}
@@ -60,13 +60,33 @@ pub record Within (x : Float) (z : ℤ) (B : ℕ) : Type 0 where
 pub within : {x : Float} {z : ℤ} (B : ℕ) → IsWhole x z → natAbs z ≤ B → Within x z B
 within B w h = record { whole = w; small = subst (λ (n : ℕ). n ≤ B) (sym (ap natAbs (w .is)) ∙ size-signed (w .sign) (w .size)) h }
 
+pub size-within : {x : Float} {z : ℤ} {B : ℕ} → Within x z B → natAbs z ≤ B
+size-within {x} {z} {B} v =
+    subst (λ (n : ℕ). n ≤ B) (sym (size-signed (v .whole .sign) (v .whole .size)) ∙ ap natAbs (v .whole .is)) (v .small)
+
+pub wider : {x : Float} {z : ℤ} {A : ℕ} (B : ℕ) → Within x z A → A ≤ B → Within x z B
+wider B v h = record { whole = v .whole; small = le-trans (v .small) h }
+
 pub index-within : (i : ℕ) → i < 32768 → Within (indexOf i) (pos i) 32767
 unfolding ofInt
 index-within i h =
     record { whole = record { sign = false; size = i; value = round-whole binary32 false i (omega arith); is = refl }; small = omega arith }
 
-rounded : (s : Bool) (n : ℕ) (z : ℤ) (B : ℕ) → n ≤ B → B ≤ 2 ^ 24 → signed s n ≡ z → Within (round binary32 s n 1) z B
-rounded s n z B h k e = record { whole = record { sign = s; size = n; value = round-whole binary32 s n (le-trans h k); is = e }; small = h }
+-- x is the whole number z, rounded; z is at most B in size
+record Rounded (x : Float) (z : ℤ) (B : ℕ) : Type 0 where
+  sign : Bool
+  size : ℕ
+  is : signed sign size ≡ z
+  small : size ≤ B
+  rounds : x ≡ round binary32 sign size 1
+
+rounded-within : {x : Float} {z : ℤ} {B : ℕ} (r : Rounded x z B) → r .size ≤ 2 ^ 24 → Within x z B
+rounded-within {x} {z} {B} r h =
+    subst (λ (y : Float). Within y z B) (sym (r .rounds))
+    (record {
+      whole = record { sign = r .sign; size = r .size; value = round-whole binary32 (r .sign) (r .size) h; is = r .is };
+      small = r .small;
+    })
 
 -- ---- the product
 plain : (a b c : ℕ) → a * 1 ≡ b * c → a ≡ b * c
@@ -86,12 +106,19 @@ mul-of (fin u m e) (fin v n d) s t a b p q =
     ∙ mul-mul-mul-comm a (down e) b (down d))
 
 pub mul-within : {x y : Float} {a b : ℤ} {A B : ℕ} → Within x a A → Within y b B → A * B ≤ 2 ^ 24 → Within (mul binary32 x y) (a *ℤ b) (A * B)
-mul-within {x} {y} {a} {b} {A} {B} v w h =
+mul-within {x} {y} v w h =
     let p = v .whole in
     let q = w .whole in
-    subst (λ (r : Float). Within r (a *ℤ b) (A * B)) (sym (mul-of x y (p .sign) (q .sign) (p .size) (q .size) (p .value) (q .value)))
-    (rounded (unlike (p .sign) (q .sign)) (p .size * q .size) (a *ℤ b) (A * B) (mul-le-mul (v .small) (w .small)) h
-    (signed-mul (p .sign) (q .sign) (p .size) (q .size) ∙ (λ i. p .is i *ℤ q .is i)))
+    let small = mul-le-mul (v .small) (w .small) in
+    rounded-within
+    (record {
+      sign = unlike (p .sign) (q .sign);
+      size = p .size * q .size;
+      is = signed-mul (p .sign) (q .sign) (p .size) (q .size) ∙ (λ i. p .is i *ℤ q .is i);
+      small = small;
+      rounds = mul-of x y (p .sign) (q .sign) (p .size) (q .size) (p .value) (q .value);
+    })
+    (le-trans small h)
 
 -- ---- the sum
 -- a common factor of both and of the divisor leaves the sum
@@ -136,17 +163,20 @@ add-of (fin u m e) (fin v n d) s t a b p q =
     right : n * up d * down e ≡ b * (down e * down d)
     right = ap (λ (z : ℕ). z * down e) (plain (n * up d) b (down d) (q .1)) ∙ mul-assoc b (down d) (down e) ∙ ap (λ (z : ℕ). b * z) (mul-comm (down d) (down e))
 
-sum-within : (s t : Bool) (a b B : ℕ) → a + b ≤ B → B ≤ 2 ^ 24 → Within (sum binary32 s a t b 1) (signed s a +ℤ signed t b) B
+one-rounding : (s : Bool) (n : ℕ) (z : ℤ) (B : ℕ) → n ≤ B → signed s n ≡ z → Rounded (round binary32 s n 1) z B
+one-rounding s n z B h e = record { sign = s; size = n; is = e; small = h; rounds = refl }
+
+sum-rounded : (s t : Bool) (a b : ℕ) → Rounded (sum binary32 s a t b 1) (signed s a +ℤ signed t b) (a + b)
 unfolding sum
-sum-within false false a b B h k = rounded false (a + b) (pos (a + b)) B h k refl
-sum-within true true a b B h k = rounded true (a + b) (negℤ (pos a) +ℤ negℤ (pos b)) B h k (negℤ-+ℤ (pos a) (pos b))
-sum-within false true a b B h k = go (ltb a b) (ltb→lt a b) (nltb→le a b)
+sum-rounded false false a b = one-rounding false (a + b) (pos (a + b)) (a + b) (omega arith) refl
+sum-rounded true true a b = one-rounding true (a + b) (negℤ (pos a) +ℤ negℤ (pos b)) (a + b) (omega arith) (negℤ-+ℤ (pos a) (pos b))
+sum-rounded false true a b = go (ltb a b) (ltb→lt a b) (nltb→le a b)
   where
     go : (t : Bool) → (T t → a < b) → (T (not t) → b ≤ a)
-        → Within (cond t (round binary32 true (b - a) 1) (round binary32 false (a - b) 1)) (pos a +ℤ negℤ (pos b)) B
-    go true l g = rounded true (b - a) (pos a +ℤ negℤ (pos b)) B (omega arith) k (sym (below a b (l tt)))
-    go false l g = rounded false (a - b) (pos a +ℤ negℤ (pos b)) B (omega arith) k (sym (above a b (g tt)))
-sum-within true false a b B h k = go (ltb a b) (ltb b a) (ltb→lt a b) (ltb→lt b a) (nltb→le a b) (nltb→le b a)
+        → Rounded (cond t (round binary32 true (b - a) 1) (round binary32 false (a - b) 1)) (pos a +ℤ negℤ (pos b)) (a + b)
+    go true l g = one-rounding true (b - a) (pos a +ℤ negℤ (pos b)) (a + b) (omega arith) (sym (below a b (l tt)))
+    go false l g = one-rounding false (a - b) (pos a +ℤ negℤ (pos b)) (a + b) (omega arith) (sym (above a b (g tt)))
+sum-rounded true false a b = go (ltb a b) (ltb b a) (ltb→lt a b) (ltb→lt b a) (nltb→le a b) (nltb→le b a)
   where
     swapped : pos b +ℤ negℤ (pos a) ≡ negℤ (pos a) +ℤ pos b
     swapped = +ℤ-comm (pos b) (negℤ (pos a))
@@ -155,17 +185,58 @@ sum-within true false a b B h k = go (ltb a b) (ltb b a) (ltb→lt a b) (ltb→l
     zeros l m = omega arith
 
     go : (t u : Bool) → (T t → a < b) → (T u → b < a) → (T (not t) → b ≤ a) → (T (not u) → a ≤ b)
-        → Within (cond t (round binary32 false (b - a) 1) (round binary32 u (a - b) 1)) (negℤ (pos a) +ℤ pos b) B
-    go true u l m n o = rounded false (b - a) (negℤ (pos a) +ℤ pos b) B (omega arith) k (sym (above b a (omega (arith, l tt))) ∙ swapped)
-    go false true l m n o = rounded true (a - b) (negℤ (pos a) +ℤ pos b) B (omega arith) k (sym (below b a (m tt)) ∙ swapped)
+        → Rounded (cond t (round binary32 false (b - a) 1) (round binary32 u (a - b) 1)) (negℤ (pos a) +ℤ pos b) (a + b)
+    go true u l m n o =
+        one-rounding false (b - a) (negℤ (pos a) +ℤ pos b) (a + b) (omega arith) (sym (above b a (omega (arith, l tt))) ∙ swapped)
+    go false true l m n o = one-rounding true (a - b) (negℤ (pos a) +ℤ pos b) (a + b) (omega arith) (sym (below b a (m tt)) ∙ swapped)
     go false false l m n o =
-        rounded false (a - b) (negℤ (pos a) +ℤ pos b) B (omega arith) k (ap pos (zeros (o tt) (n tt)) ∙ sym (above b a (o tt)) ∙ swapped)
+        one-rounding false (a - b) (negℤ (pos a) +ℤ pos b) (a + b) (omega arith)
+        (ap pos (zeros (o tt) (n tt)) ∙ sym (above b a (o tt)) ∙ swapped)
 
-pub add-within : {x y : Float} {a b : ℤ} {A B : ℕ} → Within x a A → Within y b B → A + B ≤ 2 ^ 24 → Within (add binary32 x y) (a +ℤ b) (A + B)
-add-within {x} {y} {a} {b} {A} {B} v w h =
+add-rounded : {x y : Float} {a b : ℤ} {A B : ℕ} → Within x a A → Within y b B → Rounded (add binary32 x y) (a +ℤ b) (A + B)
+add-rounded {x} {y} {a} {b} {A} {B} v w =
     let p = v .whole in
     let q = w .whole in
-    let fine : p .size + q .size ≤ A + B = omega (arith, v .small, w .small) in
-    subst (λ (r : Float). Within r (a +ℤ b) (A + B)) (sym (add-of x y (p .sign) (q .sign) (p .size) (q .size) (p .value) (q .value)))
-    (subst (λ (z : ℤ). Within (sum binary32 (p .sign) (p .size) (q .sign) (q .size) 1) z (A + B)) (λ i. p .is i +ℤ q .is i)
-    (sum-within (p .sign) (q .sign) (p .size) (q .size) (A + B) fine h))
+    let r = sum-rounded (p .sign) (q .sign) (p .size) (q .size) in
+    record {
+      sign = r .sign;
+      size = r .size;
+      is = r .is ∙ (λ i. p .is i +ℤ q .is i);
+      small = omega (arith, v .small, w .small, r .small);
+      rounds = add-of x y (p .sign) (q .sign) (p .size) (q .size) (p .value) (q .value) ∙ r .rounds;
+    }
+
+pub add-within : {x y : Float} {a b : ℤ} {A B : ℕ} → Within x a A → Within y b B → A + B ≤ 2 ^ 24 → Within (add binary32 x y) (a +ℤ b) (A + B)
+add-within v w h = let r = add-rounded v w in rounded-within r (le-trans (r .small) h)
+
+-- the same where only the sum itself is known to be small
+pub add-exact : {x y : Float} {a b : ℤ} {A B : ℕ} → Within x a A → Within y b B → natAbs (a +ℤ b) ≤ 2 ^ 24
+    → IsWhole (add binary32 x y) (a +ℤ b)
+add-exact v w h =
+    let r = add-rounded v w in
+    rounded-within r (subst (λ (n : ℕ). n ≤ 2 ^ 24) (sym (ap natAbs (r .is)) ∙ size-signed (r .sign) (r .size)) h) .whole
+
+-- ---- the negative
+signed-not : (s : Bool) (n : ℕ) → signed (not s) n ≡ negℤ (signed s n)
+signed-not false n = refl
+signed-not true n = sym (negℤ-negℤ (pos n))
+
+neg-of : (x : Float) (s : Bool) (a : ℕ) → HasValue x s a 1 → HasValue (neg x) (not s) a 1
+unfolding neg
+neg-of nan s a p = absurd p
+neg-of (inf u) s a p = absurd p
+neg-of (fin u m e) s a p = (ap not (p .0), p .1)
+
+pub neg-within : {x : Float} {z : ℤ} {B : ℕ} → Within x z B → Within (neg x) (negℤ z) B
+neg-within {x} v =
+    let p = v .whole in
+    record {
+      whole =
+          record {
+            sign = not (p .sign);
+            size = p .size;
+            value = neg-of x (p .sign) (p .size) (p .value);
+            is = signed-not (p .sign) (p .size) ∙ ap negℤ (p .is);
+          };
+      small = v .small;
+    }

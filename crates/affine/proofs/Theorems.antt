@@ -18,7 +18,7 @@ use Rattle.affine.specs.Whole.{firstLimit, lastLimit, IsWhole, WholeRow,
 use Rattle.affine.proofs.Exact.{within, index-within, mul-within, add-within}
 
 -- ---- a whole row
-abbrev valueAt : List ℕ → ℕ → ℕ → ℕ → Float
+abbrev pub valueAt : List ℕ → ℕ → ℕ → ℕ → Float
 valueAt row i j k = rowOf (numberAt row 0) (numberAt row 1) (numberAt row 2) (numberAt row 3) i j k
 
 row-exact : {row : List ℕ} (w : WholeRow row) (i j k : ℕ) → i < 32768 → j < 32768 → k < 32768 → IsWhole (valueAt row i j k) (exactOf w i j k)
@@ -28,7 +28,7 @@ row-exact w i j k hi hj hk =
     let c = mul-within (within firstLimit (w .is2) (w .small2)) (index-within k hk) (omega arith) in
     add-within (add-within (add-within a b (omega arith)) c (omega arith)) (within lastLimit (w .is3) (w .small3)) (omega arith) .whole
 
-whole-finite : {x : Float} {z : ℤ} → IsWhole x z → finite x ≡ true
+pub whole-finite : {x : Float} {z : ℤ} → IsWhole x z → finite x ≡ true
 whole-finite {x} w = go x (w .value)
   where
     go : (x : Float) → HasValue x (w .sign) (w .size) 1 → finite x ≡ true
@@ -40,15 +40,18 @@ whole-row-finite : {row : List ℕ} → WholeRow row → finiteRow row ≡ true
 unfolding finiteRow
 whole-row-finite w = λ i. whole-finite (w .is0) i && whole-finite (w .is1) i && whole-finite (w .is2) i && whole-finite (w .is3) i
 
+-- three rows of finite numbers, at a place where their values are whole
+pub placed-exactly : (x y z : List ℕ) {a b c : ℤ} (i j k : ℕ) → finiteRow x ≡ true → finiteRow y ≡ true → finiteRow z ≡ true
+    → IsWhole (valueAt x i j k) a → IsWhole (valueAt y i j k) b → IsWhole (valueAt z i j k) c → PlacedExactly (positionOf x y z i j k) a b c
+unfolding positionOf verdict
+placed-exactly x y z i j k f g h a b c = simp (f, g, h, whole-finite a, whole-finite b, whole-finite c) (a, b, c)
+
 -- In the stated case there is a position for all indexes on an axis, and it is the exact whole number.
 pub position-exact : {x y z : List ℕ} (u : WholeRow x) (v : WholeRow y) (w : WholeRow z) (i j k : ℕ) → i < 32768 → j < 32768 → k < 32768
     → PlacedExactly (positionOf x y z i j k) (exactOf u i j k) (exactOf v i j k) (exactOf w i j k)
-unfolding positionOf verdict
 position-exact {x} {y} {z} u v w i j k hi hj hk =
-    let a = row-exact u i j k hi hj hk in
-    let b = row-exact v i j k hi hj hk in
-    let c = row-exact w i j k hi hj hk in
-    simp (whole-row-finite u, whole-row-finite v, whole-row-finite w, whole-finite a, whole-finite b, whole-finite c) (a, b, c)
+    placed-exactly x y z i j k (whole-row-finite u) (whole-row-finite v) (whole-row-finite w)
+    (row-exact u i j k hi hj hk) (row-exact v i j k hi hj hk) (row-exact w i j k hi hj hk)
 
 -- ---- every position is finite
 only-clear : {r : Row} → Clear (r ∷ []) → r .test ≡ false

@@ -36,7 +36,7 @@ pub enum Placed {
 }
 
 // Whether x is neither a NaN nor an infinity.
-fn is_finite(x: f32) -> bool
+pub fn is_finite(x: f32) -> bool
     ensures { λ r. ⌜ r ≡ finite x ⌝ }
 {
     let inf = f32::from_bits(0x7f80_0000);
@@ -51,7 +51,7 @@ fn is_finite_pattern(bits: u32) -> bool
 }
 
 // Whether the four numbers of a row are finite.
-fn row_is_finite(row: [u32; 4]) -> bool
+pub fn row_is_finite(row: [u32; 4]) -> bool
     ensures { λ r. ⌜ r ≡ finiteRow row ⌝ }
 {
     is_finite_pattern(row[0])

@@ -5,7 +5,6 @@ use mathlib.Core.Logic.{_↔_}
 use mathlib.Core.Bool.{Bool, true, false, not, _||_}
 use mathlib.Core.List.{List, [], _∷_}
 use native.Mathlib.Omega.{arith}
-use borrow.Author.Tests.{ltb-false}
 use lib.Dec.{eqb}
 use lib.IntN.{ℤ}
 use lib.ListN.{length, getD, take, drop, length-take, length-drop}
@@ -19,11 +18,12 @@ use Rattle.grid.specs.Axes.{sevenAxes}
 use Rattle.grid.proofs.Axes.{image-seven, seven-past}
 use Rattle.grid.proofs.Voxels.{byte-one, byte-some}
 use Rattle.header.specs.declared.Kind.{Kind}
-use Rattle.header.specs.declared.Kind.the-variants.{Single, Pair}
+use Rattle.header.specs.declared.Kind.the-variants.{Single}
 use Rattle.rules.specs.declared.Shape.{Shape}
 use Rattle.rules.specs.declared.Image.{Image}
-use Rattle.rules.specs.Rules.{axisCount, imageOf, shapeOfRecord, cutShort, imageCut, holder}
+use Rattle.rules.specs.Rules.{axisCount, imageOf, shapeOfRecord, imageCut, holder}
 use Rattle.layout.specs.File.{orderOf, shapeIn}
+use Rattle.rules.proofs.Passed.{image-held}
 use Rattle.reader.specs.Reading.{readingOf, IsAccepted}
 use Rattle.reader.proofs.File.{accepted-shape, accepted-record, record-image, record-whole}
 use Rattle.reader.proofs.Theorems.{answered-number}
@@ -44,12 +44,6 @@ pub accepted-located : (file image index : List ℕ) → IsAccepted file
 unfolding locatedOf
 accepted-located file image index a =
     rw a (passed-located (shapeOfRecord (readingOf file .header)) (length image) index (clear-accepted (accepted-record file a)))
-
--- the file that holds a whole image
-image-held : (kind : Kind) (i : Image) (file image : List ℕ) → cutShort kind (length file) i ≡ false
-    → imageCut kind (length image) i ≡ false → i .offset + i .bytes ≤ length (holder kind file image)
-image-held Single i file image s p = ltb-false (length file) (i .offset + i .bytes) s
-image-held Pair i file image s p = ltb-false (length image) (i .offset + i .bytes) p
 
 module _ (file image index : List ℕ) (e : Extent) (at : locatedOf file image index ≡ At e) where
   pub located-both : IsAccepted file × (locatedIn (readingOf file .header) (length image) index ≡ At e)

@@ -1,18 +1,18 @@
 -- The laws of specs/Axes.antt: what `firstBelow` finds; the axes one by one, and how many voxels and bytes they give; the seven axes.
-use mathlib.Core.Path.{_≡_, refl, sym, _∙_}
+use mathlib.Core.Path.{_≡_, refl, sym, ap, _∙_}
 use mathlib.Core.Logic.{_↔_, ⊎-elim}
-use mathlib.Core.Bool.{Bool, true, false}
+use mathlib.Core.Bool.{Bool, true, false, cond}
 use mathlib.Core.List.{List, [], _∷_, _++_}
 use Prim.Native.Nat.{ℕ, zero, suc, _+_, _-_, _*_, _≤_, _<_, zero-le}
 use native.Mathlib.Omega.{arith}
 use native.Mathlib.Nat.{eq-or-lt-of-le, le-of-suc-le-suc, not-suc-le-zero, le-refl, mul-assoc, mul-comm, mul-one, mul-suc, one-mul}
 use native.Mathlib.Nat.{mul-right-comm, one-le-mul, mul-le-mul-left, le-mul-of-pos-right}
 use native.Mathlib.Numerals.{add-one}
-use lib.ListN.{length, getD, replicate, set, length-append, List·getD-append}
-use lib.Seq.{getD-at, set-at, append-snoc}
+use lib.ListN.{length, getD, replicate, set, length-append, getD-replicate, List·getD-append}
+use lib.Seq.{getD-at, getD-append-add, set-at, append-snoc}
 use lib.IntN.{ℤ}
-use lib.Dec.{eqb·suc-zero}
-use borrow.Author.Tests.{ltb-false}
+use lib.Dec.{ltb, eqb·suc-zero}
+use borrow.Author.Tests.{ltb-true, ltb-false}
 use Rattle.number.specs.Natural.{naturalOf}
 use Rattle.grid.specs.Grid.{voxels, within, voxelNumber}
 use Rattle.grid.specs.Axes.{dimAt, belowOne, firstBelow, axes, imageBytes, imageLimit, sevenAxes}
@@ -168,6 +168,23 @@ ones-zero (d ∷ ds) (i ∷ is) m (suc k) h g =
 pub seven-past : (dim : List ℤ) (n : ℕ) (is : List ℕ) (k : ℕ) → within (sevenAxes dim n) is ≡ true → n ≤ k → getD is k 0 ≡ 0
 unfolding sevenAxes
 seven-past dim n is k h l = ones-zero (axes dim n) is (7 - n) k h (rw (length-axes dim n) l)
+
+-- one of the seven
+pub seven-at : (dim : List ℤ) (n k : ℕ) → k < 7 → getD (sevenAxes dim n) k 0 ≡ cond (ltb k n) (naturalOf (dimAt dim (suc k))) 1
+unfolding sevenAxes
+seven-at dim n k h = go (ltb k n) refl
+  where
+    go : (t : Bool) → ltb k n ≡ t → getD (axes dim n ++ replicate (7 - n) 1) k 0 ≡ cond t (naturalOf (dimAt dim (suc k))) 1
+    go true e =
+        let l : k < n = ltb-true k n e in
+        let size = length-axes dim n in
+        List·getD-append (axes dim n) (replicate (7 - n) 1) 0 k (omega arith) ∙ axes-at dim n k l
+    go false e =
+        let l : n ≤ k = ltb-false k n e in
+        let at : k ≡ length (axes dim n) + (k - n) = omega (arith, length-axes dim n) in
+        ap (λ (m : ℕ). getD (axes dim n ++ replicate (7 - n) 1) m 0) at
+        ∙ getD-append-add (axes dim n) (replicate (7 - n) 1) (k - n) 0
+        ∙ getD-replicate (7 - n) (k - n) 1 0 (omega arith)
 
 -- the axes past dim[0] add no voxel
 pub voxels-seven : (dim : List ℤ) (n : ℕ) → voxels (sevenAxes dim n) ≡ voxels (axes dim n)

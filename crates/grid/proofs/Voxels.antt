@@ -12,7 +12,7 @@ use lib.Seq.{drop-cons}
 use lib.Arith.{digits-lt, digits-div, digits-mod}
 use lib.Dec.{ltb}
 use borrow.Author.Tests.{ltb-true, lt-ltb}
-use Rattle.grid.specs.Grid.{voxels, within, voxelNumber}
+use Rattle.grid.specs.Grid.{voxels, within, voxelNumber, indexOf}
 
 -- an index within: its first number, and the others
 pub within-both : (d : ℕ) (ds : List ℕ) (i : ℕ) (is : List ℕ) → within (d ∷ ds) (i ∷ is) ≡ true → (i < d) × (within ds is ≡ true)
@@ -53,16 +53,11 @@ number-injective (d ∷ ds) (i ∷ is) (j ∷ js) h g e =
     cc
 
 -- the first digit of a number below d * n, taken off
-digit-off : (d n k : ℕ) → k < d * n → (0 < d) × (k / d < n)
+pub digit-off : (d n k : ℕ) → k < d * n → (0 < d) × (k / d < n)
 digit-off zero n k h = let z : k < 0 = rw zero-mul at h in absurd (not-suc-le-zero z)
 digit-off (suc d) n k h =
     let pos : 0 < suc d = suc-le-suc zero-le in
     (pos, div-lt-iff-lt-mul pos .1 (rw mul-comm at h))
-
--- the index of the voxel that k voxels are before
-unfoldable pub indexOf : List ℕ → ℕ → List ℕ
-indexOf [] k = []
-indexOf (d ∷ ds) k = k % d ∷ indexOf ds (k / d)
 
 -- each number below how many voxels there are is that of an index within
 pub index-within : (ds : List ℕ) (k : ℕ) → k < voxels ds → within ds (indexOf ds k) ≡ true
@@ -76,6 +71,13 @@ pub index-number : (ds : List ℕ) (k : ℕ) → k < voxels ds → voxelNumber d
 unfolding voxelNumber voxels indexOf
 index-number [] k h = omega arith
 index-number (d ∷ ds) k h = rw (index-number ds (k / d) (digit-off d (voxels ds) k h .1)) (mod-add-div k d)
+
+-- and the index of that number is the index itself
+pub number-index : (ds is : List ℕ) → within ds is ≡ true → indexOf ds (voxelNumber ds is) ≡ is
+number-index ds is h =
+    let k = voxelNumber ds is in
+    let l = number-below ds is h in
+    number-injective ds (indexOf ds k) is (index-within ds k l) h (index-number ds k l)
 
 -- An image from the byte off on, of b bytes for each voxel. Byte o of a voxel is a byte of the image;
 pub byte-inside : (ds is : List ℕ) (b off o : ℕ) → within ds is ≡ true → o < b → off + b * voxelNumber ds is + o < off + b * voxels ds

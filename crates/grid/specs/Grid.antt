@@ -2,7 +2,7 @@
 -- the index is the number of its voxel written in mixed radix, the lengths as the radixes (01-scope.md, "Voxels and byte order").
 use mathlib.Core.Bool.{Bool, true, false, _&&_}
 use mathlib.Core.List.{List, [], _∷_}
-use Prim.Native.Nat.{ℕ, _+_, _*_}
+use Prim.Native.Nat.{ℕ, _+_, _*_, _/_, _%_}
 use lib.Dec.{ltb}
 
 -- how many voxels there are: the product of the lengths
@@ -22,3 +22,8 @@ unfoldable pub voxelNumber : List ℕ → List ℕ → ℕ
 voxelNumber [] is = 0
 voxelNumber (d ∷ ds) [] = 0
 voxelNumber (d ∷ ds) (i ∷ is) = i + d * voxelNumber ds is
+
+-- the index of the voxel that k voxels are before
+unfoldable pub indexOf : List ℕ → ℕ → List ℕ
+indexOf [] k = []
+indexOf (d ∷ ds) k = k % d ∷ indexOf ds (k / d)

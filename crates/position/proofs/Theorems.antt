@@ -1,14 +1,13 @@
 -- What holds of every position: its three values are finite; and in the case that 01-scope.md states it is the exact whole number; and
 -- which numbers a refusal has. The crate slice_position has the same of files.
-use mathlib.Core.Path.{_≡_, refl, sym, ap, subst, _∙_}
+use mathlib.Core.Path.{_≡_, refl, sym, subst}
 use mathlib.Core.Bool.{Bool, true, false, not, _&&_, _||_, and-eq-true-iff}
-use mathlib.Core.List.{List, [], _∷_, _++_}
-use Prim.Native.Nat.{ℕ, suc, _+_, _-_, _≤_, _<_}
+use mathlib.Core.List.{List, [], _∷_}
+use Prim.Native.Nat.{ℕ, suc, _-_, _<_}
 use native.Mathlib.Omega.{arith}
-use borrow.Author.Tests.{ltb-true, ltb-false, not-false}
-use lib.Dec.{ltb, eqb}
-use lib.ListN.{length, getD, replicate, getD-replicate, List·getD-append}
-use lib.Seq.{getD-append-add}
+use borrow.Author.Tests.{not-false}
+use lib.Dec.{eqb}
+use lib.ListN.{getD}
 use lib.IntN.{ℤ, pos}
 use lib.Signed.{leZ}
 use lib.Ieee.Scale.{finite}
@@ -16,8 +15,8 @@ use Rattle.refusal.specs.declared.Refusal.{Refusal}
 use Rattle.refusal.specs.Table.{verdict}
 use Rattle.refusal.proofs.Rows.{Clear, none, one, accepted-clear, decided-accepted, decided-refused, verdict-number}
 use Rattle.grid.specs.Grid.{within}
-use Rattle.grid.specs.Axes.{axes, sevenAxes}
-use Rattle.grid.proofs.Axes.{length-axes, axes-at}
+use Rattle.grid.specs.Axes.{sevenAxes}
+use Rattle.grid.proofs.Axes.{seven-at}
 use Rattle.rules.specs.Rules.{axisCount}
 use Rattle.rules.proofs.Passed.{neither}
 use Rattle.affine.specs.declared.Position.{Position}
@@ -30,7 +29,7 @@ use Rattle.position.specs.declared.Sform.{Sform}
 use Rattle.position.specs.declared.Positioned.{Positioned}
 use Rattle.position.specs.declared.Positioned.the-variants.{At, Refused}
 use Rattle.position.specs.Positions.{lengthAt, threeAxes, resultsBy, positionRows, positionBy}
-use Rattle.position.proofs.Answers.{fromPlaced, placedBy, length-stated, length-past, position-placed}
+use Rattle.position.proofs.Answers.{fromPlaced, placedBy, position-placed}
 
 -- ---- the stated case
 -- "the first three numbers of each row are whole and at most 64 in size, and its last is whole and at most 8,388,608 in size"
@@ -48,7 +47,7 @@ PositionedExactly (At p) x y z = IsWhole (p .x) x × IsWhole (p .y) y × IsWhole
 abbrev pub ExactAt : (f : Sform) → WholeRows f → ℕ → ℕ → ℕ → Positioned → Type 0
 ExactAt f w i j k answer = PositionedExactly answer (exactOf (w .x) i j k) (exactOf (w .y) i j k) (exactOf (w .z) i j k)
 
-placed-exactly : (p : Placed) (x y z : ℤ) → PlacedExactly p x y z → PositionedExactly (fromPlaced p) x y z
+pub placed-exactly : (p : Placed) (x y z : ℤ) → PlacedExactly p x y z → PositionedExactly (fromPlaced p) x y z
 placed-exactly (Located p) x y z e = e
 placed-exactly NoPosition x y z e = absurd e
 
@@ -65,24 +64,7 @@ position-by-exact f w i j k a hi hj hk =
 
 -- ---- the axes are those of a voxel's seven indexes
 pub length-of-seven : (dim : List ℤ) (k : ℕ) → k < 7 → getD (sevenAxes dim (axisCount dim)) k 0 ≡ lengthAt dim (suc k)
-unfolding sevenAxes
-length-of-seven dim k h = go (ltb k (axisCount dim)) refl
-  where
-    go : (t : Bool) → ltb k (axisCount dim) ≡ t
-        → getD (axes dim (axisCount dim) ++ replicate (7 - axisCount dim) 1) k 0 ≡ lengthAt dim (suc k)
-    go true e =
-        let n = axisCount dim in
-        let l : k < n = ltb-true k n e in
-        let size = length-axes dim n in
-        List·getD-append (axes dim n) (replicate (7 - n) 1) 0 k (omega arith) ∙ axes-at dim n k l ∙ length-stated dim (suc k) l
-    go false e =
-        let n = axisCount dim in
-        let l : n ≤ k = ltb-false k n e in
-        let at : k ≡ length (axes dim n) + (k - n) = omega (arith, length-axes dim n) in
-        ap (λ m. getD (axes dim n ++ replicate (7 - n) 1) m 0) at
-        ∙ getD-append-add (axes dim n) (replicate (7 - n) 1) (k - n) 0
-        ∙ getD-replicate (7 - n) (k - n) 1 0 (omega arith)
-        ∙ length-past dim (suc k) (omega arith)
+length-of-seven dim k h = seven-at dim (axisCount dim) k h
 
 -- ---- every position is finite
 

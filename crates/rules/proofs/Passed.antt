@@ -1,10 +1,12 @@
 -- What an answer of rules 5 to 10 tells: the table's verdict behind it, and of fields that pass, how large the image's numbers are.
-use Prim.Native.Nat.{ℕ, _≤_}
+use Prim.Native.Nat.{ℕ, _+_, _≤_}
 use mathlib.Core.Path.{_≡_, refl, sym}
 use mathlib.Core.Bool.{Bool, true, false, not, _||_, true≢false, false≢true}
+use mathlib.Core.List.{List}
 use native.Mathlib.Omega.{arith}
 use borrow.Author.Tests.{ltb-false, le-ltb, eqb-true, not-false}
 use lib.Dec.{ltb, eqb}
+use lib.ListN.{length}
 use Rattle.refusal.specs.declared.Refusal.{Refusal}
 use Rattle.refusal.specs.declared.Verdict.{Verdict}
 use Rattle.refusal.specs.declared.Verdict.the-variants.{Accepted, Refused}
@@ -24,7 +26,7 @@ use Rattle.rules.specs.declared.Shape.{Shape}
 use Rattle.rules.specs.declared.Image.{Image}
 use Rattle.rules.specs.declared.Judged.the-variants.{Passed, Failed}
 use Rattle.rules.specs.Rules.{firstBad, isKnown, statesBits, offsetOutside, bytesOfImage, imageOf, fieldRows, judgedOf}
-use Rattle.rules.specs.Rules.{shapeOfRecord, recordRows, recordJudged}
+use Rattle.rules.specs.Rules.{shapeOfRecord, recordRows, recordJudged, cutShort, imageCut, holder}
 
 -- fields that pass have not failed
 pub failed-never {ℓ} : {A : Type ℓ} {r : Refusal} {i : Image} → Failed r ≡ Passed i → A
@@ -102,3 +104,9 @@ module _ (h : Header) where
   pub record-failed-is : (r : Refusal) → recordJudged h ≡ Failed r → verdict (recordRows h) ≡ Refused r
   unfolding recordJudged
   record-failed-is r e = failed-by (verdict (recordRows h)) (imageOf (shapeOfRecord h)) r e
+
+-- the file that holds a whole image, by rules 11 and 16
+pub image-held : (kind : Kind) (i : Image) (file image : List ℕ) → cutShort kind (length file) i ≡ false
+    → imageCut kind (length image) i ≡ false → i .offset + i .bytes ≤ length (holder kind file image)
+image-held Single i file image s p = ltb-false (length file) (i .offset + i .bytes) s
+image-held Pair i file image s p = ltb-false (length image) (i .offset + i .bytes) p

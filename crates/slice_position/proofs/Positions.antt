@@ -36,7 +36,7 @@ axis-half dim axis h = go (leb axis (axisCount dim))
     go true = h
     go false = omega arith
 
-abbrev ThreeHalf : List ℤ → Type 0
+abbrev pub ThreeHalf : List ℤ → Type 0
 ThreeHalf dim = (lengthAt dim 1 < 32768) × (lengthAt dim 2 < 32768) × (lengthAt dim 3 < 32768)
 
 read-half : (order : Order) (s : List ℕ) → ThreeHalf (i16sAt order s 40 8)
@@ -47,7 +47,7 @@ read-half order s =
       axis-half dim 3 (natural-half (u16At order s 46)),
     )
 
-file-half : (file : List ℕ) → ThreeHalf (readingOf file .header .dim)
+pub file-half : (file : List ℕ) → ThreeHalf (readingOf file .header .dim)
 unfolding readingOf headerOf
 file-half file = go (judgement file)
   where
