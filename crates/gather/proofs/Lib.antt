@@ -1,0 +1,4 @@
+-- The laws behind the promises of src/lib.rt.
+mod Laid
+mod Runs
+mod Order

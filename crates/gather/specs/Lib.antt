@@ -1,0 +1,2 @@
+-- The definitions that the promises of src/lib.rt cite.
+pub mod Rows
