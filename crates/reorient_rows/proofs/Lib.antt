@@ -1,0 +1,4 @@
+pub mod Exact
+pub mod Integers
+pub mod Laws
+pub mod Patterns
