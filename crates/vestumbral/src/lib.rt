@@ -4,6 +4,7 @@
 ghost use mathlib.Core.Path.{_≡_};
 ghost use mathlib.Core.List.{[], _∷_};
 ghost use lib.IntN.{pos};
+ghost use lib.ListN.{length};
 ghost use Rattle.reader.specs.Reading.{readingOf};
 ghost use Rattle.by_file.specs.Files.{locatedOf};
 ghost use Rattle.slice_position.specs.Files.{sliceOf, positionAt};
@@ -15,6 +16,8 @@ ghost use Rattle.answers.specs.Answers.{positionAnswer};
 ghost use Rattle.pieces.specs.Pieces.{fresh, takenOf};
 ghost use Rattle.piece_reader.specs.Answer.{answerOf};
 ghost use Rattle.piece_answers.specs.Answers.{takenAnswer};
+ghost use Rattle.turn.specs.Turned.{turnAnswer, turnedOut, turnedOutImage};
+ghost use Rattle.turn_answers.specs.Answers.{turnOf, turnedAnswer};
 use answers::ExtensionAnswer;
 use answers::FileAnswer;
 use answers::PositionAnswer;
@@ -23,6 +26,7 @@ use answers::SliceAnswer;
 use outline::Outlined;
 use piece_answers::TakenAnswer;
 use pieces::Pieces;
+use turn_answers::TurnedAnswer;
 
 // Reads a file: what it shows of the record, or the refusal, 1 to 15.
 #[no_mangle]
@@ -94,6 +98,36 @@ pub extern "C" fn vestumbral_swap(file: &mut [u8], image: &mut [u8]) -> Reply
 {
     let verdict = byteswap::swap(file, image);
     answers::swap_reply(verdict)
+}
+
+// Turns a volume into the fronts of two lent buffers, of which the second is for a pair's image file: 1 to 15, 16 for a pair,
+// 29, 30, 23, 22.
+#[no_mangle]
+pub extern "C" fn vestumbral_turn(
+    file: &[u8],
+    image: &[u8],
+    axis1: u64,
+    axis2: u64,
+    axis3: u64,
+    reverse1: u64,
+    reverse2: u64,
+    reverse3: u64,
+    out: &mut [u8],
+    out_image: &mut [u8],
+) -> TurnedAnswer
+    ensures answer { λ a.
+        ⌜ a ≡ turnedAnswer (turnAnswer (now (file .entry)) (now (image .entry))
+        (turnOf axis1 axis2 axis3 reverse1 reverse2 reverse3) (length (now (out .entry))) (length (now («out_image» .entry)))) ⌝ }
+    ensures content { λ _.
+        ⌜ now (out .exit) ≡ turnedOut (now (file .entry)) (now (image .entry))
+        (turnOf axis1 axis2 axis3 reverse1 reverse2 reverse3) (now (out .entry)) (now («out_image» .entry)) ⌝ }
+    ensures image { λ _.
+        ⌜ now («out_image» .exit) ≡ turnedOutImage (now (file .entry)) (now (image .entry))
+        (turnOf axis1 axis2 axis3 reverse1 reverse2 reverse3) (now (out .entry)) (now («out_image» .entry)) ⌝ }
+{
+    let t = turn_answers::turn_of(axis1, axis2, axis3, reverse1, reverse2, reverse3);
+    let turned = turn::turn(file, image, t, out, out_image);
+    turn_answers::turned_answer(turned)
 }
 
 // Edits of a file's extensions in place; the file is the buffer's first `file_len` bytes: 24, 1 to 15, then 18 to 22.
