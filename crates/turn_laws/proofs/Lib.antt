@@ -1,0 +1,7 @@
+pub mod Axes
+pub mod Reading
+pub mod Made
+pub mod Volumes
+pub mod Theorems
+pub mod Voxels
+pub mod Positions
