@@ -1,0 +1,63 @@
+-- `print_from` is safe and ends: the loop's own test keeps the index inside the file, and the measure is what is left of it.
+use Prim.Native.Nat.{_-_}
+use lib.ListN.{length}
+use borrow.Author.Needs.{needs}
+use Rattle.turn_table.proofs.print_from.Statement.{statement}
+use Rattle.turn_table.proofs.print_from.Tie as tie
+
+abbrev Inv-loop : tie.InvT-loop
+Inv-loop file from k₀ t5 k = Unit {0}
+
+abbrev μ-loop : tie.MeasureT-loop
+μ-loop file from k₀ t5 k = length file - k
+
+slice-aggregate-say : tie.Need-slice-aggregate-say Inv-loop μ-loop
+slice-aggregate-say c = search needs
+
+say-requires : tie.Need-say-requires Inv-loop μ-loop
+say-requires c κs = search needs
+
+loop-holds : tie.Need-loop-holds Inv-loop μ-loop
+loop-holds c = tt
+
+shared-slice-read-say-byte : tie.Need-shared-slice-read-say-byte Inv-loop μ-loop
+shared-slice-read-say-byte c = search needs
+
+say-byte-requires : tie.Need-say-byte-requires Inv-loop μ-loop
+say-byte-requires c κs = search needs
+
+add-k : tie.Need-add-k Inv-loop μ-loop
+add-k c = search needs
+
+loop-less : tie.Need-loop-less Inv-loop μ-loop
+loop-less c = search needs
+
+loop-again : tie.Need-loop-again Inv-loop μ-loop
+loop-again c = tt
+
+slice-aggregate-say-2 : tie.Need-slice-aggregate-say-2 Inv-loop μ-loop
+slice-aggregate-say-2 c = search needs
+
+say-requires-2 : tie.Need-say-requires-2 Inv-loop μ-loop
+say-requires-2 c κs = search needs
+
+returns : tie.Need-returns Inv-loop μ-loop
+returns c = search needs
+
+pub print-from-spec : {M : Type 1} → statement M
+print-from-spec =
+    tie.close
+    (tie.spec
+    Inv-loop
+    μ-loop
+    slice-aggregate-say
+    say-requires
+    loop-holds
+    shared-slice-read-say-byte
+    say-byte-requires
+    add-k
+    loop-less
+    loop-again
+    slice-aggregate-say-2
+    say-requires-2
+    returns)
