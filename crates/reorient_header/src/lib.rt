@@ -35,14 +35,14 @@ fn pixdims_after(pixdim: [u32; 8], t: Turn) -> [u32; 8]
     requires { ⌜ isPermutation t ≡ true ⌝ }
     ensures { λ r. ⌜ r ≡ pixdimsAfter t pixdim ⌝ }
 {
-    let i = t.axis1;
-    let j = t.axis2;
-    let k = t.axis3;
+    let first = t.axis1;
+    let second = t.axis2;
+    let third = t.axis3;
     [
         pixdim[0],
-        pixdim[i],
-        pixdim[j],
-        pixdim[k],
+        pixdim[first],
+        pixdim[second],
+        pixdim[third],
         pixdim[4],
         pixdim[5],
         pixdim[6],
