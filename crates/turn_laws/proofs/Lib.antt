@@ -5,3 +5,4 @@ pub mod Volumes
 pub mod Theorems
 pub mod Voxels
 pub mod Positions
+pub mod Numbers
