@@ -22,6 +22,7 @@
  *     denormals-are-zero (a program linked with -ffast-math starts with both). In another state a time, a position or a turned srow
  *     number may be another number, and so may what hangs on it: a slice's state and refusal 23. Read, extension_at, voxel, swap,
  *     the edits, the calls for pieces and any other turn do not depend on that state.
+ *   - The stack has room: a turn takes some 72 KiB of it, every other call less than 8.
  *
  * The refusals. They are tried in the order of their numbers, but 24 and 25 before anything else by the calls that give them, and
  * by a turn 29 and 30, then 23, then 22. At each extension 15 is tried, then 13, then 14.
