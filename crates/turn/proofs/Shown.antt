@@ -48,7 +48,8 @@ pub record Allowed (h : Header) (t : Turn) (file image out outImage : ℕ) : Typ
   pub fits : file ≤ out
   pub fitsImage : imageLonger (h .kind) image outImage ≡ false
 
-clear-allowed : (h : Header) (t : Turn) (file image out outImage : ℕ) → Clear (turnRows h t file image out outImage) → Allowed h t file image out outImage
+clear-allowed : (h : Header) (t : Turn) (file image out outImage : ℕ) → Clear (turnRows h t file image out outImage)
+    → Allowed h t file image out outImage
 clear-allowed h t file image out outImage (one r16 (one r29 (one r30 (one r23 (one r22 none))))) =
     let b = neither (ltb out file) (imageLonger (h .kind) image outImage) r22 in
     record {
@@ -162,7 +163,8 @@ module _ (s : List ℕ) (o : Outline) (e : outlineOf 0 s ≡ Shown o) where
     unfolding turnAnswer turnedOut turnedOutImage
     turns-refused r j = let v = verdict-is ∙ j in (rw v, rw v, rw v)
 
-    pub turns-made : (n : ℕ) → n ≡ imageLength (o .layout .kind) (length image) → (left leftImage : List ℕ) → judged ≡ Accepted → left ≡ put out 0 (fileAfter t parsed s)
+    pub turns-made : (n : ℕ) → n ≡ imageLength (o .layout .kind) (length image) → (left leftImage : List ℕ)
+        → judged ≡ Accepted → left ≡ put out 0 (fileAfter t parsed s)
         → leftImage ≡ put outImage 0 (imageAfter t parsed image)
         → Turns (Made (record { file = length s; image = n })) left leftImage
     unfolding turnAnswer turnedOut turnedOutImage

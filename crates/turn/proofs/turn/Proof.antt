@@ -15,13 +15,17 @@ enum-known-outlined-2 : tie.Need-enum-known-outlined-2
 enum-known-outlined-2 c = search needs
 
 turn-shown-requires : tie.Need-turn-shown-requires
-turn-shown-requires c κs = sym (c .before .before .before .before .before .outline-of .ensures) ∙ c .before .before .before .outlined2 .given .1
+turn-shown-requires c κs =
+    let o = c .before .before .before in
+    sym (o .before .before .outline-of .ensures) ∙ o .outlined2 .given .1
 
 returns : tie.Need-returns
 returns c =
     let hidden = c .before .outlined .given in
-    let a = c .before .before .before .before .before .before .before .before .args in
-    turns-hidden (a .file .now) (a .image .now) (a .t) (a .out .now) (a .out-image .now) (hidden .0 .0) (sym (c .before .before .before .outline-of .ensures) ∙ hidden .1)
+    let o = c .before .before .before in
+    let a = o .before .before .before .before .before .args in
+    let e = sym (o .outline-of .ensures) ∙ hidden .1 in
+    turns-hidden (a .file .now) (a .image .now) (a .t) (a .out .now) (a .out-image .now) (hidden .0 .0) e
 
 same-length : tie.Need-same-length
 same-length c = search needs

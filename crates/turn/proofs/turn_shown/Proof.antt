@@ -11,16 +11,18 @@ no-spans-requires c κs = search needs
 parse-requires : tie.Need-parse-requires
 parse-requires c κs = search needs
 
--- the record that was read
-header-is : (c : tie.After-parse) → c .parse .result ≡ parsed (c .before .before .before .before .before .before .before .before .args .file .now) (c .before .before .before .before .before .before .before .before .args .outline) (c .before .before .before .before .before .before .before .before .pre)
+-- where the function began, and the record that was read
+abbrev start : tie.After-parse → tie.Start
+start c = c .before .before .before .before .before .before .before .before
+
+header-is : (c : tie.After-parse)
+    → let s = start c in c .parse .result ≡ parsed (s .args .file .now) (s .args .outline) (s .pre)
 header-is c = rw (c .before .no-spans .ensures) at (c .parse .ensures)
 
 judge-requires : tie.Need-judge-requires
 judge-requires c κs =
-    let s = c .before .before .before .before .before .before .before .before in
-    let a = s .args in
-    let f = a .file .now in
-    rw (header-is c) (parsed-image f (a .outline) (s .pre))
+    let s = start c in
+    rw (header-is c) (parsed-image (s .args .file .now) (s .args .outline) (s .pre))
 
 enum-known-judged : tie.Need-enum-known-judged
 enum-known-judged c = search needs
@@ -30,26 +32,29 @@ enum-told c = search needs
 
 put-files-requires : tie.Need-put-files-requires
 put-files-requires c κs =
-    let s = c .before .before .before .before .before .before .before .before .before .before .before .before .before in
+    let told = c .before .before in
+    let judge = told .before .before in
+    let s = start (judge .before) in
     let a = s .args in
     let f = a .file .now in
-    let h = header-is (c .before .before .before .before .before) in
-    let j = sym (rw h at (c .before .before .before .before .judge .ensures)) ∙ c .before .before .enum-told .given .1 in
+    let h = header-is (judge .before) in
+    let j = sym (rw h at (judge .judge .ensures)) ∙ told .enum-told .given .1 in
     let ok = allowed _ _ _ _ _ _ j in
-    rw h
-    (ok .permutation, (ok .finite, (parsed-sized f (a .outline) (s .pre), (parsed-image f (a .outline) (s .pre), parsed-room f (a .outline) (s .pre) (a .t) _ _ _ ok))))
+    let image = parsed-image f (a .outline) (s .pre) in
+    let room = parsed-room f (a .outline) (s .pre) (a .t) _ _ _ ok in
+    rw h (ok .permutation, (ok .finite, (parsed-sized f (a .outline) (s .pre), (image, room))))
 
 image-length-requires : tie.Need-image-length-requires
 image-length-requires c κs = search needs
 
 returns : tie.Need-returns
 returns c =
-    let s = c .before .before .before .before .before .before .before .before .before .before .before .before in
+    let judge = c .before .before .before in
+    let s = start (judge .before) in
     let a = s .args in
-    let f = a .file .now in
-    let h = header-is (c .before .before .before .before) in
-    let j = sym (rw h at (c .before .before .before .judge .ensures)) ∙ c .before .judged .given .1 in
-    turns-refused f (a .outline) (s .pre) (a .t) _ _ _ _ j
+    let h = header-is (judge .before) in
+    let j = sym (rw h at (judge .judge .ensures)) ∙ c .before .judged .given .1 in
+    turns-refused (a .file .now) (a .outline) (s .pre) (a .t) _ _ _ _ j
 
 same-length : tie.Need-same-length
 same-length c = search needs
@@ -59,13 +64,15 @@ same-length-2 c = search needs
 
 returns-2 : tie.Need-returns-2
 returns-2 c =
-    let s = c .before .before .before .before .before .before .before .before .before .before .before .before .before .before .before .before .before .before .before in
+    let files = c .before .before .before .before .before in
+    let told = files .before .before .before in
+    let judge = told .before .before in
+    let s = start (judge .before) in
     let a = s .args in
-    let f = a .file .now in
-    let h = header-is (c .before .before .before .before .before .before .before .before .before .before .before) in
-    let j = sym (rw h at (c .before .before .before .before .before .before .before .before .before .before .judge .ensures)) ∙ c .before .before .before .before .before .before .before .before .enum-told .given .1 in
-    let put = rw h at (c .before .before .before .before .before .put-files .ensures) in
-    turns-made f (a .outline) (s .pre) (a .t) _ _ _ _ (c .image-length .ensures) _ _ j (put .0) (put .1)
+    let h = header-is (judge .before) in
+    let j = sym (rw h at (judge .judge .ensures)) ∙ told .enum-told .given .1 in
+    let put = rw h at (files .put-files .ensures) in
+    turns-made (a .file .now) (a .outline) (s .pre) (a .t) _ _ _ _ (c .image-length .ensures) _ _ j (put .0) (put .1)
 
 pub turn-shown-spec : {M : Type 1} → statement M
 turn-shown-spec =
