@@ -1,4 +1,4 @@
--- `header_after` meets its contract.
+-- `header_after` meets its contract: the parts are as each call says.
 use Rattle.reorient_header.specs.After.{headerAfter}
 use borrow.Author.Needs.{needs}
 use Rattle.reorient_header.proofs.header_after.Statement.{statement}
@@ -21,7 +21,18 @@ sform-after-requires c κs = search needs
 
 returns : tie.Need-returns
 unfolding headerAfter
-returns c = rw (c .before .before .before .before .dims-after .ensures, c .before .before .before .key-after .ensures, c .before .before .scale-after .ensures, c .before .quatern-after .ensures, c .sform-after .ensures)
+returns c =
+    let quatern = c .before in
+    let scale = quatern .before in
+    let key = scale .before in
+    let dims = key .before in
+    rw (
+      dims .dims-after .ensures,
+      key .key-after .ensures,
+      scale .scale-after .ensures,
+      quatern .quatern-after .ensures,
+      c .sform-after .ensures,
+    )
 
 pub header-after-spec : {M : Type 1} → statement M
 header-after-spec =

@@ -1,4 +1,4 @@
--- `not_finite` meets its contract.
+-- `not_finite` meets its contract: without a sform nothing is asked, and of one `stay_finite` tells.
 use mathlib.Core.Path.{_≡_, sym, _∙_}
 use mathlib.Core.Bool.{true, false}
 use lib.IntN.{pos}
@@ -10,7 +10,8 @@ use borrow.Author.Needs.{needs}
 use Rattle.reorient_header.proofs.not_finite.Statement.{statement}
 use Rattle.reorient_header.proofs.not_finite.Tie as tie
 
-code-same : (c : tie.After-struct-told) → let z = c .before .before .before .args .header .quatern .«sform_code» in toZ w16 (ofZ w16 z) ≡ z
+code-same : (c : tie.After-struct-told)
+    → let z = c .before .before .before .args .header .quatern .«sform_code» in toZ w16 (ofZ w16 z) ≡ z
 code-same c = search needs
 
 unset : (c : tie.Then1) → leZ (c .before .before .before .before .args .header .quatern .«sform_code») (pos 0) ≡ true

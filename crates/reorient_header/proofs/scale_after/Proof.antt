@@ -1,4 +1,4 @@
--- `scale_after` meets its contract.
+-- `scale_after` meets its contract: the pixdims are as `pixdims_after` says, and the rest stays.
 use borrow.Author.Needs.{needs}
 use Rattle.reorient_header.proofs.scale_after.Statement.{statement}
 use Rattle.reorient_header.proofs.scale_after.Tie as tie

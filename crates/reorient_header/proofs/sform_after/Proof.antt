@@ -1,4 +1,4 @@
--- `sform_after` meets its contract.
+-- `sform_after` meets its contract: without a sform the rows stay, and of one `rows_after` makes the new ones.
 use mathlib.Core.Path.{_≡_, sym, _∙_}
 use mathlib.Core.Bool.{true, false}
 use lib.IntN.{pos}
@@ -11,7 +11,8 @@ use Rattle.reorient_header.proofs.Made.{sform-finite}
 use Rattle.reorient_header.proofs.sform_after.Statement.{statement}
 use Rattle.reorient_header.proofs.sform_after.Tie as tie
 
-code-same : (c : tie.After-struct-told) → let z = c .before .before .before .before .args .header .quatern .«sform_code» in toZ w16 (ofZ w16 z) ≡ z
+code-same : (c : tie.After-struct-told)
+    → let z = c .before .before .before .before .args .header .quatern .«sform_code» in toZ w16 (ofZ w16 z) ≡ z
 code-same c = search needs
 
 unset : (c : tie.Then1) → leZ (c .before .before .before .before .before .args .header .quatern .«sform_code») (pos 0) ≡ true
@@ -25,7 +26,9 @@ unfolding sformAfter
 returns c = rw (unset c)
 
 rows-after-requires : tie.Need-rows-after-requires
-rows-after-requires c κs = (c .before .before .before .before .before .before .pre .0, sform-finite _ _ (above (c .before)) (c .before .before .before .before .before .before .pre .1))
+rows-after-requires c κs =
+    let s = c .before .before .before .before .before .before in
+    (s .pre .0, sform-finite _ _ (above (c .before)) (s .pre .1))
 
 returns-2 : tie.Need-returns-2
 unfolding sformAfter

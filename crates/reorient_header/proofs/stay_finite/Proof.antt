@@ -1,4 +1,4 @@
--- `stay_finite` meets its contract.
+-- `stay_finite` meets its contract: each row by the lengths that were read, by the laws of proofs/Made.antt.
 use Rattle.reorient_header.proofs.Made.{rows-finite}
 use borrow.Author.Needs.{needs}
 use Rattle.reorient_header.proofs.stay_finite.Statement.{statement}
@@ -33,8 +33,11 @@ stays-finite-requires-3 c κs = search needs
 
 returns : tie.Need-returns
 returns c =
-    let a = c .before .before .before .before .before .before .before .before .before .before .before .before .args in
-    rows-finite (a .t) (a .t2) (a .rows) _ _ _ (c .before .before .before .before .before .before .before .before .before .before .length-in .ensures) (c .before .before .before .before .before .before .before .before .length-in2 .ensures) (c .before .before .before .before .before .before .length-in3 .ensures) _ _ _
+    let n = c .before .before .before .before .before .before in
+    let m = n .before .before in
+    let l = m .before .before in
+    let a = l .before .before .args in
+    rows-finite (a .t) (a .t2) (a .rows) _ _ _ (l .length-in .ensures) (m .length-in2 .ensures) (n .length-in3 .ensures) _ _ _
     (c .before .before .stays-finite .ensures) (c .before .stays-finite2 .ensures) (c .stays-finite3 .ensures)
 
 pub stay-finite-spec : {M : Type 1} → statement M
