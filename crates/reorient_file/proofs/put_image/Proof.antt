@@ -27,33 +27,53 @@ seven-requires c κs = search needs
 natural-requires : tie.Need-natural-requires
 natural-requires c κs = search needs
 
--- bitpix as it is passed on
-bitpix-same : (c : tie.After-struct-told) → let z = c .before .before .before .before .before .before .before .before .before .args .header .intent .bitpix in toZ w16 (ofZ w16 z) ≡ z
+-- where the function began, and bitpix as it is passed on
+abbrev start : tie.After-struct-told → tie.Start
+start c = c .before .before .before .before .before .before .before .before .before
+
+bitpix-same : (c : tie.After-struct-told) → let z = start c .args .header .intent .bitpix in toZ w16 (ofZ w16 z) ≡ z
 bitpix-same c = search needs
 
 -- the bytes of a voxel that are passed on
-bytes-is : (c : tie.After-natural) → c .natural .result / 8 ≡ voxelBytes (c .before .before .before .before .before .before .before .before .before .before .args .header)
+bytes-is : (c : tie.After-natural) → c .natural .result / 8 ≡ voxelBytes (start (c .before) .args .header)
 bytes-is c = ap (λ (n : ℕ). n / 8) (c .natural .ensures .0 ∙ ap naturalOf (bitpix-same (c .before)))
 
 reorient-image-requires : tie.Need-reorient-image-requires
 reorient-image-requires c κs =
-    let s = c .before .before .before .before .before .before .before .before .before .before .before in
+    let seven = c .before .before .before in
+    let s = start (c .before .before) in
     let h = s .args .header in
-    let lengths = c .before .before .before .seven .ensures ∙ ap (sevenAxes (h .dim)) (c .before .before .before .before .axis-count .ensures .0) in
-    let bytes = bytes-is (c .before) in
+    let lengths = seven .seven .ensures ∙ ap (sevenAxes (h .dim)) (seven .before .axis-count .ensures .0) in
     let z = s .pre .1 .0 in
-    rw (lengths, bytes) (s .pre .0, (z .small, (z .some, (omega (arith, image-voxels h, z .bytes), (omega (arith, image-voxels h, s .pre .1 .1 .0), omega (arith, image-voxels h, s .pre .1 .1 .0, s .pre .1 .1 .1))))))
+    let n = image-voxels h in
+    rw (lengths, bytes-is (c .before)) (
+      s .pre .0,
+      (
+        z .small,
+        (
+          z .some,
+          (
+            omega (arith, n, z .bytes),
+            (
+              omega (arith, n, s .pre .1 .1 .0),
+              omega (arith, n, s .pre .1 .1 .0, s .pre .1 .1 .1),
+            ),
+          ),
+        ),
+      ),
+    )
 
 same-length : tie.Need-same-length
 same-length c = search needs
 
 returns : tie.Need-returns
 returns c =
-    let s = c .before .before .before .before .before .before .before .before .before .before .before .before .before .before in
-    let h = s .args .header in
-    let lengths = c .before .before .before .before .before .before .seven .ensures ∙ ap (sevenAxes (h .dim)) (c .before .before .before .before .before .before .before .axis-count .ensures .0) in
-    let bytes = bytes-is (c .before .before .before .before) in
-    rw (lengths, bytes) at (c .before .before .reorient-image .ensures)
+    let image = c .before .before in
+    let natural = image .before .before in
+    let seven = natural .before .before in
+    let h = start (natural .before) .args .header in
+    let lengths = seven .seven .ensures ∙ ap (sevenAxes (h .dim)) (seven .before .axis-count .ensures .0) in
+    rw (lengths, bytes-is natural) at (image .reorient-image .ensures)
 
 pub put-image-spec : {M : Type 1} → statement M
 put-image-spec =
