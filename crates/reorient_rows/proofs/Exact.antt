@@ -1,7 +1,7 @@
--- The stated case in which a position is exact, after a turn (02-change-requests.md, P10; 01-scope.md, "If the first three numbers of each
--- row are whole and at most 64 in size, and its last is whole and at most 8,388,608 in size, the position is the exact whole number"). Where
--- the old rows are such, the position of a new voxel by the new rows is exactly that of the voxel it came from by the old rows. The new shift
--- may be above the stated limit: the last sum is exact since the old position is small.
+-- The stated case in which a position is exact, after a turn (02-change-requests.md, P10; 01-scope.md, "If the first three numbers of
+-- each row are whole and at most 64 in size, and its last is whole and at most 8,388,608 in size, the position is the exact whole
+-- number"). Where the old rows are such, the position of a new voxel by the new rows is exactly that of the voxel it came from by the
+-- old rows. The new shift may be above the stated limit: the last sum is exact since the old position is small.
 use mathlib.Core.Path.{_≡_, sym, ap, _∙_}
 use mathlib.Core.Bool.{Bool, true, false}
 use mathlib.Core.List.{List, [], _∷_}
@@ -32,8 +32,8 @@ facing-within : (r : Bool) {x : Float} {z : ℤ} {B : ℕ} → Within x z B → 
 facing-within false v = v
 facing-within true v = neg-within v
 
-shifted-within : (r : Bool) (n : ℕ) {c s : Float} {a z : ℤ} {B : ℕ} → Within c a firstLimit → Within s z B → n ≤ 32767 → B + 2097088 ≤ 2 ^ 24
-    → Within (shifted r n c s) (moved r n a z) (B + 2097088)
+shifted-within : (r : Bool) (n : ℕ) {c s : Float} {a z : ℤ} {B : ℕ} → Within c a firstLimit → Within s z B → n ≤ 32767
+    → B + 2097088 ≤ 2 ^ 24 → Within (shifted r n c s) (moved r n a z) (B + 2097088)
 shifted-within false n {B = B} v w h k = wider (B + 2097088) w (omega arith)
 shifted-within true n v w h k = add-within w (mul-within v (index-within (n - 1) (omega arith)) (omega arith)) k
 
@@ -135,7 +135,8 @@ module _ {row : List ℕ} (u : WholeRow row) (t : Turn) (ht : isPermutation t �
     from-small : (from 0 < 32768) × (from 1 < 32768) × (from 2 < 32768)
     unfolding cameFrom mirroredIn unpermuted
     from-small =
-        let p = within-both _ _ _ _ (mirroredIn-within (reversals t) (three l m n ns) _ (sym (within-permuted l m n i j k ns is t ht) ∙ inside)) in
+        let held = sym (within-permuted l m n i j k ns is t ht) ∙ inside in
+        let p = within-both _ _ _ _ (mirroredIn-within (reversals t) (three l m n ns) _ held) in
         let q = within-both _ _ _ _ (p .1) in
         let r = within-both _ _ _ _ (q .1) in
         (omega (arith, p .0), omega (arith, q .0), omega (arith, r .0))

@@ -41,7 +41,9 @@ permuted-finite : (a b c s : Float) (t : Turn) → isPermutation t ≡ true → 
     → (finite a ≡ true) × (finite b ≡ true) × (finite c ≡ true) × (finite s ≡ true)
 unfolding permuted
 permuted-finite a b c s t h =
-    by-order (λ x y z. areFinite (permuted noNumber (order t x y z) (a ∷ (b ∷ (c ∷ (s ∷ []))))) ≡ true → (finite a ≡ true) × (finite b ≡ true) × (finite c ≡ true) × (finite s ≡ true))
+    by-order
+    (λ x y z. areFinite (permuted noNumber (order t x y z) (a ∷ (b ∷ (c ∷ (s ∷ []))))) ≡ true
+    → (finite a ≡ true) × (finite b ≡ true) × (finite c ≡ true) × (finite s ≡ true))
     (λ w. let p = all-four (finite a) (finite b) (finite c) (finite s) w in (p .0, p .1, p .2, p .3))
     (λ w. let p = all-four (finite a) (finite c) (finite b) (finite s) w in (p .0, p .2, p .1, p .3))
     (λ w. let p = all-four (finite b) (finite a) (finite c) (finite s) w in (p .1, p .0, p .2, p .3))
@@ -50,14 +52,20 @@ permuted-finite a b c s t h =
     (λ w. let p = all-four (finite c) (finite b) (finite a) (finite s) w in (p .2, p .1, p .0, p .3))
     t h
 
-turned-finite : (t : Turn) (l m n : ℕ) (a b c s : Float) → isPermutation t ≡ true → areFinite (numbersAfter t l m n a b c s) ≡ true → (finite a && finite b && finite c && finite s) ≡ true
+turned-finite : (t : Turn) (l m n : ℕ) (a b c s : Float) → isPermutation t ≡ true → areFinite (numbersAfter t l m n a b c s) ≡ true
+    → (finite a && finite b && finite c && finite s) ≡ true
 unfolding numbersAfter
 turned-finite t l m n a b c s h w =
-    let p = permuted-finite (facing (t .reversed1) a) (facing (t .reversed2) b) (facing (t .reversed3) c) (shifted (t .reversed3) n c (shifted (t .reversed2) m b (shifted (t .reversed1) l a s))) t h w in
+    let s1 : Float = shifted (t .reversed1) l a s in
+    let s2 : Float = shifted (t .reversed2) m b s1 in
+    let s3 : Float = shifted (t .reversed3) n c s2 in
+    let p = permuted-finite (facing (t .reversed1) a) (facing (t .reversed2) b) (facing (t .reversed3) c) s3 t h w in
     let a' : finite a ≡ true = sym (finite-facing (t .reversed1) a) ∙ p .0 in
     let b' : finite b ≡ true = sym (finite-facing (t .reversed2) b) ∙ p .1 in
     let c' : finite c ≡ true = sym (finite-facing (t .reversed3) c) ∙ p .2 in
-    let s' : finite s ≡ true = finite-shifted (t .reversed1) l a s (finite-shifted (t .reversed2) m b (shifted (t .reversed1) l a s) (finite-shifted (t .reversed3) n c (shifted (t .reversed2) m b (shifted (t .reversed1) l a s)) (p .3))) in
+    let s2' : finite s2 ≡ true = finite-shifted (t .reversed3) n c s2 (p .3) in
+    let s1' : finite s1 ≡ true = finite-shifted (t .reversed2) m b s1 s2' in
+    let s' : finite s ≡ true = finite-shifted (t .reversed1) l a s s1' in
     rw (a', b', c', s')
 
 -- and so of the numbers of a row
@@ -76,7 +84,9 @@ never-finite t l m n row h e = contrary (finiteAfter t l m n row) (finiteRow row
 pub numbers-made : (t : Turn) (l m n : ℕ) (a b c s s1 s2 s3 x y z p q r : Float)
     → s1 ≡ shifted (t .reversed1) l a s → s2 ≡ shifted (t .reversed2) m b s1 → s3 ≡ shifted (t .reversed3) n c s2
     → x ≡ facing (t .reversed1) a → y ≡ facing (t .reversed2) b → z ≡ facing (t .reversed3) c
-    → p ≡ floatAt (x ∷ (y ∷ (z ∷ (s3 ∷ [])))) (t .axis1 - 1) → q ≡ floatAt (x ∷ (y ∷ (z ∷ (s3 ∷ [])))) (t .axis2 - 1) → r ≡ floatAt (x ∷ (y ∷ (z ∷ (s3 ∷ [])))) (t .axis3 - 1)
+    → p ≡ floatAt (x ∷ (y ∷ (z ∷ (s3 ∷ [])))) (t .axis1 - 1)
+    → q ≡ floatAt (x ∷ (y ∷ (z ∷ (s3 ∷ [])))) (t .axis2 - 1)
+    → r ≡ floatAt (x ∷ (y ∷ (z ∷ (s3 ∷ [])))) (t .axis3 - 1)
     → (p ∷ (q ∷ (r ∷ (s3 ∷ [])))) ≡ numbersAfter t l m n a b c s
 unfolding numbersAfter permuted
 numbers-made t l m n a b c s s1 s2 s3 x y z p q r e1 e2 e3 ex ey ez ep eq er = rw (ep, eq, er, ex, ey, ez, e3, e2, e1)
@@ -91,4 +101,9 @@ pub record AllFinite (p q r s : Float) : Type 0 where
 pub all-finite : (p q r s : Float) → (finite p && (finite q && (finite r && finite s))) ≡ true → AllFinite p q r s
 all-finite p q r s h =
     let e = all-four (finite p) (finite q) (finite r) (finite s) h in
-    record { first = finite-no-nan p (e .0); second = finite-no-nan q (e .1); third = finite-no-nan r (e .2); shift = finite-no-nan s (e .3) }
+    record {
+      first = finite-no-nan p (e .0);
+      second = finite-no-nan q (e .1);
+      third = finite-no-nan r (e .2);
+      shift = finite-no-nan s (e .3);
+    }

@@ -1,4 +1,4 @@
--- `are_finite` meets its contract.
+-- `are_finite` meets its contract: each of the four is asked.
 use mathlib.Core.Bool.{_&&_}
 use borrow.Author.Needs.{needs}
 use Rattle.reorient_rows.proofs.are_finite.Statement.{statement}
@@ -17,7 +17,11 @@ is-finite-requires-4 : tie.Need-is-finite-requires-4
 is-finite-requires-4 c κs = search needs
 
 returns : tie.Need-returns
-returns c = λ i. c .before .before .before .is-finite .ensures i && (c .before .before .is-finite2 .ensures i && (c .before .is-finite3 .ensures i && c .is-finite4 .ensures i))
+returns c =
+    let third = c .before in
+    let second = third .before in
+    let first = second .before in
+    λ i. first .is-finite .ensures i && (second .is-finite2 .ensures i && (third .is-finite3 .ensures i && c .is-finite4 .ensures i))
 
 pub are-finite-spec : {M : Type 1} → statement M
 are-finite-spec =

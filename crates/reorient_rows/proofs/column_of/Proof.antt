@@ -1,4 +1,4 @@
--- `column_of` meets its contract.
+-- `column_of` meets its contract: the axis is 1, 2 or 3.
 use mathlib.Core.Path.{_≡_}
 use native.Mathlib.Omega.{arith}
 use Rattle.reorient_rows.proofs.column_of.Statement.{statement}

@@ -1,4 +1,4 @@
--- `facing_to` meets its contract.
+-- `facing_to` meets its contract: a reversed axis is negated.
 use borrow.Author.Needs.{needs}
 use Rattle.reorient_rows.proofs.facing_to.Statement.{statement}
 use Rattle.reorient_rows.proofs.facing_to.Tie as tie

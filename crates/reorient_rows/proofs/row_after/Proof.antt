@@ -1,40 +1,31 @@
 -- `row_after` meets its contract: the new numbers are finite, so each has a bit pattern.
 use mathlib.Core.Path.{ap, _∙_}
 use Rattle.reorient_rows.specs.Rows.{areFinite, patternsOf, finiteAfter, rowAfter}
-use Rattle.reorient_rows.proofs.Laws.{all-finite, after-finite}
+use Rattle.reorient_rows.proofs.Laws.{AllFinite, all-finite, after-finite}
 use Rattle.reorient_rows.proofs.row_after.Statement.{statement}
 use Rattle.reorient_rows.proofs.row_after.Tie as tie
 
 numbers-of-requires : tie.Need-numbers-of-requires
 numbers-of-requires c κs = (c .pre .0, after-finite _ _ _ _ _ (c .pre .0) (c .pre .1))
 
-float-to-bits-t7 : tie.Need-float-to-bits-t7
+-- the new numbers are finite
+all : (c : tie.After-numbers-of) → let v = c .numbers-of .result in AllFinite (v .first) (v .second) (v .third) (v .shift)
 unfolding finiteAfter
-float-to-bits-t7 c =
-    let v = c .before .numbers-of .result in
-    let made = ap areFinite (c .before .numbers-of .ensures) in
-    all-finite (v .first) (v .second) (v .third) (v .shift) (made ∙ c .before .before .pre .1) .first
+all c =
+    let v = c .numbers-of .result in
+    all-finite (v .first) (v .second) (v .third) (v .shift) (ap areFinite (c .numbers-of .ensures) ∙ c .before .pre .1)
+
+float-to-bits-t7 : tie.Need-float-to-bits-t7
+float-to-bits-t7 c = all (c .before) .first
 
 float-to-bits-t8 : tie.Need-float-to-bits-t8
-unfolding finiteAfter
-float-to-bits-t8 c =
-    let v = c .before .before .numbers-of .result in
-    let made = ap areFinite (c .before .before .numbers-of .ensures) in
-    all-finite (v .first) (v .second) (v .third) (v .shift) (made ∙ c .before .before .before .pre .1) .second
+float-to-bits-t8 c = all (c .before .before) .second
 
 float-to-bits-t9 : tie.Need-float-to-bits-t9
-unfolding finiteAfter
-float-to-bits-t9 c =
-    let v = c .before .before .before .numbers-of .result in
-    let made = ap areFinite (c .before .before .before .numbers-of .ensures) in
-    all-finite (v .first) (v .second) (v .third) (v .shift) (made ∙ c .before .before .before .before .pre .1) .third
+float-to-bits-t9 c = all (c .before .before .before) .third
 
 float-to-bits-t10 : tie.Need-float-to-bits-t10
-unfolding finiteAfter
-float-to-bits-t10 c =
-    let v = c .before .before .before .before .numbers-of .result in
-    let made = ap areFinite (c .before .before .before .before .numbers-of .ensures) in
-    all-finite (v .first) (v .second) (v .third) (v .shift) (made ∙ c .before .before .before .before .before .pre .1) .shift
+float-to-bits-t10 c = all (c .before .before .before .before) .shift
 
 returns : tie.Need-returns
 unfolding rowAfter

@@ -1,5 +1,4 @@
--- `shifted_by` meets its contract.
--- `shifted_by` meets its contract.
+-- `shifted_by` meets its contract: a reversed axis adds its column, as often as its last index.
 use borrow.Author.Needs.{needs}
 use Rattle.reorient_rows.proofs.shifted_by.Statement.{statement}
 use Rattle.reorient_rows.proofs.shifted_by.Tie as tie
