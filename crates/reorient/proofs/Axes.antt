@@ -16,7 +16,8 @@ use Rattle.reorient.proofs.Orders.{by-order}
 
 -- one axis more
 old-next : (step : ℕ) (rs : List Bool) (ns : List ℕ) (k : ℕ) → k < length ns
-    → oldAxes step (drop k rs) (drop k ns) ≡ axisOf (getD ns k 0) step (getD rs k false) ∷ oldAxes (step * getD ns k 0) (drop (k + 1) rs) (drop (k + 1) ns)
+    → oldAxes step (drop k rs) (drop k ns)
+    ≡ axisOf (getD ns k 0) step (getD rs k false) ∷ oldAxes (step * getD ns k 0) (drop (k + 1) rs) (drop (k + 1) ns)
 unfolding oldAxes
 old-next step rs ns k h = rw (drop-cons ns k 0 h, getD-drop k rs 0 false, add-zero, drop-drop 1 k rs, add-one k)
 
@@ -34,7 +35,8 @@ pub record Next (step : ℕ) (ns : List ℕ) (k whole : ℕ) : Type 0 where
   pub left : step * getD ns k 0 * voxels (drop (k + 1) ns) ≡ whole
   pub some : 0 < voxels (drop (k + 1) ns)
 
-pub step-next : (step : ℕ) (ns : List ℕ) (k whole : ℕ) → k < length ns → step * voxels (drop k ns) ≡ whole → 0 < voxels (drop k ns) → Next step ns k whole
+pub step-next : (step : ℕ) (ns : List ℕ) (k whole : ℕ) → k < length ns → step * voxels (drop k ns) ≡ whole
+    → 0 < voxels (drop k ns) → Next step ns k whole
 step-next step ns k whole h e p =
     let v : ℕ = voxels (drop (k + 1) ns) in
     let n : ℕ = getD ns k 0 in
@@ -42,7 +44,8 @@ step-next step ns k whole h e p =
     let left : step * n * v ≡ whole = mul-assoc step n v ∙ rw (voxels-more ns k h) at e in
     record { small = omega (arith, le-mul-of-pos-right {m = v} (step * n) some); left = left; some = some }
 
-pub axes-next : (xs goal : List Axis) (a : Axis) (step : ℕ) (rs : List Bool) (ns : List ℕ) (k : ℕ) → k < length ns → k < length xs → a ≡ axisOf (getD ns k 0) step (getD rs k false)
+pub axes-next : (xs goal : List Axis) (a : Axis) (step : ℕ) (rs : List Bool) (ns : List ℕ) (k : ℕ) → k < length ns
+    → k < length xs → a ≡ axisOf (getD ns k 0) step (getD rs k false)
     → goal ≡ take k xs ++ oldAxes step (drop k rs) (drop k ns)
     → goal ≡ take (k + 1) (set xs k a) ++ oldAxes (step * getD ns k 0) (drop (k + 1) rs) (drop (k + 1) ns)
 axes-next xs goal a step rs ns k h g e q =
@@ -71,7 +74,8 @@ bounds t h =
     (record { low1 = omega arith; high1 = omega arith; low2 = omega arith; high2 = omega arith; low3 = omega arith; high3 = omega arith })
     t h
 
-pub last-four : {A : Type 0} (xs : List A) (d : A) → length xs ≡ 7 → drop 3 xs ≡ getD xs 3 d ∷ (getD xs 4 d ∷ (getD xs 5 d ∷ (getD xs 6 d ∷ [])))
+pub last-four : {A : Type 0} (xs : List A) (d : A) → length xs ≡ 7
+    → drop 3 xs ≡ getD xs 3 d ∷ (getD xs 4 d ∷ (getD xs 5 d ∷ (getD xs 6 d ∷ [])))
 last-four xs d h =
     let e : drop 7 xs ≡ [] = drop-of-length-le xs {i = 7} (omega arith) in
     drop-cons xs 3 d (omega arith)

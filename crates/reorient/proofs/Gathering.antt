@@ -13,7 +13,8 @@ use Rattle.gather_row.specs.Series.{series}
 use Rattle.gather_row.specs.Gather.{reach, countOf, placeIn, gathered, Inside}
 use Rattle.gather_row.proofs.Series.{series-same}
 use Rattle.reorient.specs.declared.Turn.{Turn}
-use Rattle.reorient.specs.Reorient.{isPermutation, permuted, unpermuted, mirrored, mirroredIn, reversals, cameFrom, sourceOf, reoriented, noAxis, axisOf, oldAxes}
+use Rattle.reorient.specs.Reorient.{isPermutation, permuted, unpermuted, mirrored, mirroredIn, reversals}
+use Rattle.reorient.specs.Reorient.{cameFrom, sourceOf, reoriented, noAxis, axisOf, oldAxes}
 use Rattle.reorient.proofs.Orders.{by-order, order, voxels-permuted}
 use Rattle.reorient.proofs.Indexes.{three, sourceOf-below}
 use Rattle.reorient.proofs.Images.{length-reoriented}
@@ -61,17 +62,23 @@ place-old step [] (n ∷ ns) (i ∷ is) = rw (line-old n step false i, place-old
 place-old step (r ∷ rs) (n ∷ ns) (i ∷ is) = rw (line-old n step r i, place-old (step * n) rs ns is, mul-add, mul-assoc)
 
 -- three axes, permuted
-lengths-permuted : (a b c : Axis) (xs : List Axis) (t : Turn) → isPermutation t ≡ true → axisLengths (permuted noAxis t (a ∷ (b ∷ (c ∷ xs)))) ≡ permuted 0 t (axisLengths (a ∷ (b ∷ (c ∷ xs))))
+lengths-permuted : (a b c : Axis) (xs : List Axis) (t : Turn) → isPermutation t ≡ true
+    → axisLengths (permuted noAxis t (a ∷ (b ∷ (c ∷ xs)))) ≡ permuted 0 t (axisLengths (a ∷ (b ∷ (c ∷ xs))))
 unfolding permuted axisLengths
 lengths-permuted a b c xs t h =
-    by-order (λ x y z. axisLengths (permuted noAxis (order t x y z) (a ∷ (b ∷ (c ∷ xs)))) ≡ permuted 0 (order t x y z) (axisLengths (a ∷ (b ∷ (c ∷ xs)))))
+    by-order
+    (λ x y z. axisLengths (permuted noAxis (order t x y z) (a ∷ (b ∷ (c ∷ xs))))
+    ≡ permuted 0 (order t x y z) (axisLengths (a ∷ (b ∷ (c ∷ xs)))))
     refl refl refl refl refl refl t h
 
 place-permuted : (a b c : Axis) (xs : List Axis) (i j k : ℕ) (is : List ℕ) (t : Turn) → isPermutation t ≡ true
-    → placeAt (permuted noAxis t (a ∷ (b ∷ (c ∷ xs)))) (i ∷ (j ∷ (k ∷ is))) ≡ placeAt (a ∷ (b ∷ (c ∷ xs))) (unpermuted 0 t (i ∷ (j ∷ (k ∷ is))))
+    → placeAt (permuted noAxis t (a ∷ (b ∷ (c ∷ xs)))) (i ∷ (j ∷ (k ∷ is)))
+    ≡ placeAt (a ∷ (b ∷ (c ∷ xs))) (unpermuted 0 t (i ∷ (j ∷ (k ∷ is))))
 unfolding permuted unpermuted placeAt
 place-permuted a b c xs i j k is t h =
-    by-order (λ x y z. placeAt (permuted noAxis (order t x y z) (a ∷ (b ∷ (c ∷ xs)))) (i ∷ (j ∷ (k ∷ is))) ≡ placeAt (a ∷ (b ∷ (c ∷ xs))) (unpermuted 0 (order t x y z) (i ∷ (j ∷ (k ∷ is)))))
+    by-order
+    (λ x y z. placeAt (permuted noAxis (order t x y z) (a ∷ (b ∷ (c ∷ xs)))) (i ∷ (j ∷ (k ∷ is)))
+    ≡ placeAt (a ∷ (b ∷ (c ∷ xs))) (unpermuted 0 (order t x y z) (i ∷ (j ∷ (k ∷ is)))))
     refl (omega arith) (omega arith) (omega arith) (omega arith) (omega arith) t h
 
 module _ (l m n : ℕ) (ns : List ℕ) (b : ℕ) (t : Turn) (ht : isPermutation t ≡ true) where
@@ -97,11 +104,13 @@ module _ (l m n : ℕ) (ns : List ℕ) (b : ℕ) (t : Turn) (ht : isPermutation 
   pub gathered-image : (s : List ℕ) (from : ℕ) → gathered b s from newAxes ≡ reoriented b (three l m n ns) t (drop from s)
   unfolding gathered reoriented
   gathered-image s from =
-      series-same (λ k. take b (drop (from + placeIn newAxes k) s)) (λ k. take b (drop (b * sourceOf t (three l m n ns) k) (drop from s))) (countOf newAxes)
+      series-same (λ k. take b (drop (from + placeIn newAxes k) s))
+      (λ k. take b (drop (b * sourceOf t (three l m n ns) k) (drop from s))) (countOf newAxes)
       (λ k h. rw (new-place k, drop-drop))
       ∙ ap (λ (i : ℕ). series (λ k. take b (drop (b * sourceOf t (three l m n ns) k) (drop from s))) i) new-count
 
-  pub inside-reoriented : (size from : ℕ) → 0 < voxels (three l m n ns) → from + b * voxels (three l m n ns) ≤ size → Inside b size from newAxes
+  pub inside-reoriented : (size from : ℕ) → 0 < voxels (three l m n ns)
+      → from + b * voxels (three l m n ns) ≤ size → Inside b size from newAxes
   inside-reoriented size from some h =
       record {
         some = rw new-count some;
@@ -117,7 +126,8 @@ pub record Sweeps (ns : List ℕ) (b : ℕ) (t : Turn) (s : List ℕ) (from : �
   pub inside : Inside b (length s) from (permuted noAxis t (oldAxes b (reversals t) ns))
   pub size : length (reoriented b ns t (drop from s)) ≡ b * voxels ns
 
-pub sweeps : (ns : List ℕ) (l m n : ℕ) (r : List ℕ) (b : ℕ) (t : Turn) (s : List ℕ) (from : ℕ) → ns ≡ l ∷ (m ∷ (n ∷ r)) → isPermutation t ≡ true
+pub sweeps : (ns : List ℕ) (l m n : ℕ) (r : List ℕ) (b : ℕ) (t : Turn) (s : List ℕ) (from : ℕ)
+    → ns ≡ l ∷ (m ∷ (n ∷ r)) → isPermutation t ≡ true
     → 0 < voxels ns → from + b * voxels ns ≤ length s → Sweeps ns b t s from
 sweeps ns l m n r b t s from e ht some h =
     let some' : 0 < voxels (three l m n r) = rw e at some in

@@ -22,7 +22,8 @@ cell-length b v k s h l =
     let fit : b * k + b ≤ b * v = omega (arith, mul-suc b k, mul-le-mul-left {m = suc k} {n = v} b l) in
     simp (length-take, length-drop) (omega arith)
 
-module _ (l m n : ℕ) (ns : List ℕ) (b : ℕ) (t : Turn) (s : List ℕ) (ht : isPermutation t ≡ true) (h : b * voxels (three l m n ns) ≤ length s) where
+module _ (l m n : ℕ) (ns : List ℕ) (b : ℕ) (t : Turn) (s : List ℕ)
+    (ht : isPermutation t ≡ true) (h : b * voxels (three l m n ns) ≤ length s) where
   each-length : (k : ℕ) → k < voxels (three l m n ns) → length (take b (drop (b * sourceOf t (three l m n ns) k) s)) ≡ b
   each-length k hk = cell-length b (voxels (three l m n ns)) (sourceOf t (three l m n ns) k) s h (sourceOf-below l m n ns t k ht hk)
 
@@ -58,7 +59,8 @@ module _ (l m n : ℕ) (ns : List ℕ) (b : ℕ) (t : Turn) (s : List ℕ) (ht :
 
   -- "One turn followed by another gives the same .. image bytes as the composed turn"
   pub reoriented-twice : (u : Turn) (rest : List ℕ) → isPermutation u ≡ true
-      → reoriented b (permuted 0 t (three l m n ns)) u (reoriented b (three l m n ns) t s ++ rest) ≡ reoriented b (three l m n ns) (composed t u) s
+      → reoriented b (permuted 0 t (three l m n ns)) u (reoriented b (three l m n ns) t s ++ rest)
+      ≡ reoriented b (three l m n ns) (composed t u) s
   unfolding reoriented permuted
   reoriented-twice u rest hu =
       let old : List ℕ = three l m n ns in
@@ -74,7 +76,8 @@ module _ (l m n : ℕ) (ns : List ℕ) (b : ℕ) (t : Turn) (s : List ℕ) (ht :
       ∙ ap (λ (i : ℕ). series (λ k. take b (drop (b * sourceOf (composed t u) old k) s)) i) v
 
 -- the turn that leaves each axis where it is leaves the image
-pub reoriented-identity : (l m n : ℕ) (ns : List ℕ) (b : ℕ) (s : List ℕ) → reoriented b (three l m n ns) identity s ≡ take (b * voxels (three l m n ns)) s
+pub reoriented-identity : (l m n : ℕ) (ns : List ℕ) (b : ℕ) (s : List ℕ)
+    → reoriented b (three l m n ns) identity s ≡ take (b * voxels (three l m n ns)) s
 unfolding reoriented
 reoriented-identity l m n ns b s =
     let v : ℕ = voxels (three l m n ns) in
@@ -83,14 +86,17 @@ reoriented-identity l m n ns b s =
     ∙ series-side b s 0 v
 
 -- "and a turn then its inverse restore them": the image,
-pub reoriented-back : (l m n : ℕ) (ns : List ℕ) (b : ℕ) (t : Turn) (s rest : List ℕ) → isPermutation t ≡ true → b * voxels (three l m n ns) ≤ length s
-    → reoriented b (permuted 0 t (three l m n ns)) (inverse t) (reoriented b (three l m n ns) t s ++ rest) ≡ take (b * voxels (three l m n ns)) s
+pub reoriented-back : (l m n : ℕ) (ns : List ℕ) (b : ℕ) (t : Turn) (s rest : List ℕ) → isPermutation t ≡ true
+    → b * voxels (three l m n ns) ≤ length s
+    → reoriented b (permuted 0 t (three l m n ns)) (inverse t) (reoriented b (three l m n ns) t s ++ rest)
+    ≡ take (b * voxels (three l m n ns)) s
 reoriented-back l m n ns b t s rest ht h =
     reoriented-twice l m n ns b t s ht h (inverse t) rest (inverse-permutation t ht)
     ∙ rw (composed-inverse t ht) (reoriented-identity l m n ns b s)
 
 -- and each list that has a member for each axis, as the dims and the pixdims
-pub permuted-back : {A : Type 0} (d x y z : A) (r : List A) (t : Turn) → isPermutation t ≡ true → permuted d (inverse t) (permuted d t (x ∷ (y ∷ (z ∷ r)))) ≡ x ∷ (y ∷ (z ∷ r))
+pub permuted-back : {A : Type 0} (d x y z : A) (r : List A) (t : Turn) → isPermutation t ≡ true
+    → permuted d (inverse t) (permuted d t (x ∷ (y ∷ (z ∷ r)))) ≡ x ∷ (y ∷ (z ∷ r))
 unfolding permuted identity
 permuted-back d x y z r t ht =
     permuted-twice d (x ∷ (y ∷ (z ∷ r))) t (inverse t) (inverse-permutation t ht)

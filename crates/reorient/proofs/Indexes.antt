@@ -9,7 +9,8 @@ use borrow.Author.Tests.{lt-ltb}
 use Rattle.grid.specs.Grid.{voxels, within, voxelNumber, indexOf}
 use Rattle.grid.proofs.Voxels.{within-both, number-below, index-within, index-number, number-index}
 use Rattle.reorient.specs.declared.Turn.{Turn}
-use Rattle.reorient.specs.Reorient.{isPermutation, permuted, shownAs, unpermuted, mirrored, mirroredIn, reversals, cameFrom, sourceOf, oneOf, composed, identity}
+use Rattle.reorient.specs.Reorient.{isPermutation, permuted, shownAs, unpermuted, mirrored, mirroredIn, reversals}
+use Rattle.reorient.specs.Reorient.{cameFrom, sourceOf, oneOf, composed, identity}
 use Rattle.reorient.proofs.Orders.{unpermuted-mirroredIn, permuted-twice, unpermuted-twice, voxels-permuted, within-permuted}
 
 mirrored-below : (r : Bool) (n i : ℕ) → i < n → mirrored r n i < n
@@ -56,28 +57,35 @@ module _ (l m n : ℕ) (ns : List ℕ) where
       let y : ℕ = shownAs u 2 i j k in
       let z : ℕ = shownAs u 3 i j k in
       let d : ℕ → ℕ = λ a. getD three (a - 1) 0 in
-      let w1 : within (permuted 0 t three) (x ∷ (y ∷ (z ∷ is))) ≡ true = sym (within-permuted (d (t .axis1)) (d (t .axis2)) (d (t .axis3)) i j k ns is u hu) ∙ w in
+      let w1 : within (permuted 0 t three) (x ∷ (y ∷ (z ∷ is))) ≡ true =
+      sym (within-permuted (d (t .axis1)) (d (t .axis2)) (d (t .axis3)) i j k ns is u hu) ∙ w in
       let w2 : within three (unpermuted 0 t (x ∷ (y ∷ (z ∷ is)))) ≡ true = sym (within-permuted l m n x y z ns is t ht) ∙ w1 in
-      ap (λ (js : List ℕ). mirroredIn (reversals t) three js) (unpermuted-mirroredIn l m n x y z ns is (u .reversed1) (u .reversed2) (u .reversed3) t ht)
+      ap (λ (js : List ℕ). mirroredIn (reversals t) three js)
+      (unpermuted-mirroredIn l m n x y z ns is (u .reversed1) (u .reversed2) (u .reversed3) t ht)
       ∙ mirroredIn-twice (t .reversed1) (t .reversed2) (t .reversed3)
-      (shownAs t 1 (u .reversed1) (u .reversed2) (u .reversed3)) (shownAs t 2 (u .reversed1) (u .reversed2) (u .reversed3)) (shownAs t 3 (u .reversed1) (u .reversed2) (u .reversed3))
+      (shownAs t 1 (u .reversed1) (u .reversed2) (u .reversed3))
+      (shownAs t 2 (u .reversed1) (u .reversed2) (u .reversed3))
+      (shownAs t 3 (u .reversed1) (u .reversed2) (u .reversed3))
       l m n (shownAs t 1 x y z) (shownAs t 2 x y z) (shownAs t 3 x y z) ns is w2
       ∙ ap (λ (js : List ℕ). mirroredIn (reversals (composed t u)) three js) (unpermuted-twice 0 (i ∷ (j ∷ (k ∷ is))) t u ht hu)
 
   -- the index that a new voxel came from is one of the old file
-  pub came-within : (t : Turn) (k : ℕ) → isPermutation t ≡ true → k < voxels three → within three (cameFrom t three (indexOf (permuted 0 t three) k)) ≡ true
+  pub came-within : (t : Turn) (k : ℕ) → isPermutation t ≡ true → k < voxels three
+      → within three (cameFrom t three (indexOf (permuted 0 t three) k)) ≡ true
   unfolding cameFrom permuted indexOf
   came-within t k ht h =
       let v = voxels-permuted l m n ns t ht in
       let w = index-within (permuted 0 t three) k (omega arith) in
-      mirroredIn-within (reversals t) three (unpermuted 0 t (indexOf (permuted 0 t three) k)) (sym (within-permuted l m n _ _ _ ns _ t ht) ∙ w)
+      mirroredIn-within (reversals t) three (unpermuted 0 t (indexOf (permuted 0 t three) k))
+      (sym (within-permuted l m n _ _ _ ns _ t ht) ∙ w)
 
   pub sourceOf-below : (t : Turn) (k : ℕ) → isPermutation t ≡ true → k < voxels three → sourceOf t three k < voxels three
   unfolding sourceOf
   sourceOf-below t k ht h = number-below three (cameFrom t three (indexOf (permuted 0 t three) k)) (came-within t k ht h)
 
 -- "One turn followed by another gives the same .. as the composed turn": of a voxel's number
-pub sourceOf-twice : (l m n : ℕ) (ns : List ℕ) (t u : Turn) (k : ℕ) → isPermutation t ≡ true → isPermutation u ≡ true → k < voxels (three l m n ns)
+pub sourceOf-twice : (l m n : ℕ) (ns : List ℕ) (t u : Turn) (k : ℕ) → isPermutation t ≡ true → isPermutation u ≡ true
+    → k < voxels (three l m n ns)
     → sourceOf t (three l m n ns) (sourceOf u (permuted 0 t (three l m n ns)) k) ≡ sourceOf (composed t u) (three l m n ns) k
 unfolding sourceOf permuted indexOf
 sourceOf-twice l m n ns t u k ht hu h =

@@ -32,24 +32,18 @@ by-order P p123 p132 p213 p231 p312 p321 t h =
     let h1 = and-eq-true-iff (named t 1) (named t 2 && named t 3) .0 h in
     let h2 = and-eq-true-iff (named t 2) (named t 3) .0 (h1 .1) in
     by-name t 1
-    (λ a. by-name t 2 (λ b. let no : ⊥ = omega arith in absurd no)
-    (λ b. by-name t 3 (λ c. let no : ⊥ = omega arith in absurd no) (λ c. let no : ⊥ = omega arith in absurd no) (λ c. rw (a, b, c) p123) (h2 .1))
-    (λ b. by-name t 3 (λ c. let no : ⊥ = omega arith in absurd no) (λ c. rw (a, b, c) p132) (λ c. let no : ⊥ = omega arith in absurd no) (h2 .1)) (h2 .0))
+    (λ a. by-name t 2 (λ b. absurd (omega arith))
+    (λ b. by-name t 3 (λ c. absurd (omega arith)) (λ c. absurd (omega arith)) (λ c. rw (a, b, c) p123) (h2 .1))
+    (λ b. by-name t 3 (λ c. absurd (omega arith)) (λ c. rw (a, b, c) p132) (λ c. absurd (omega arith)) (h2 .1)) (h2 .0))
     (λ a. by-name t 2
-    (λ b. by-name t 3 (λ c. let no : ⊥ = omega arith in absurd no) (λ c. let no : ⊥ = omega arith in absurd no) (λ c. rw (a, b, c) p213) (h2 .1))
-    (λ b. let no : ⊥ = omega arith in absurd no)
-    (λ b. by-name t 3 (λ c. rw (a, b, c) p312) (λ c. let no : ⊥ = omega arith in absurd no) (λ c. let no : ⊥ = omega arith in absurd no) (h2 .1)) (h2 .0))
+    (λ b. by-name t 3 (λ c. absurd (omega arith)) (λ c. absurd (omega arith)) (λ c. rw (a, b, c) p213) (h2 .1))
+    (λ b. absurd (omega arith))
+    (λ b. by-name t 3 (λ c. rw (a, b, c) p312) (λ c. absurd (omega arith)) (λ c. absurd (omega arith)) (h2 .1)) (h2 .0))
     (λ a. by-name t 2
-    (λ b. by-name t 3 (λ c. let no : ⊥ = omega arith in absurd no) (λ c. rw (a, b, c) p231) (λ c. let no : ⊥ = omega arith in absurd no) (h2 .1))
-    (λ b. by-name t 3 (λ c. rw (a, b, c) p321) (λ c. let no : ⊥ = omega arith in absurd no) (λ c. let no : ⊥ = omega arith in absurd no) (h2 .1))
-    (λ b. let no : ⊥ = omega arith in absurd no) (h2 .0))
+    (λ b. by-name t 3 (λ c. absurd (omega arith)) (λ c. rw (a, b, c) p231) (λ c. absurd (omega arith)) (h2 .1))
+    (λ b. by-name t 3 (λ c. rw (a, b, c) p321) (λ c. absurd (omega arith)) (λ c. absurd (omega arith)) (h2 .1))
+    (λ b. absurd (omega arith)) (h2 .0))
     (h1 .0)
-
--- a list of the old file, taken to the new and back
-pub unpermuted-permuted : {A : Type 0} (d x y z : A) (r : List A) (t : Turn) → isPermutation t ≡ true → unpermuted d t (permuted d t (x ∷ (y ∷ (z ∷ r)))) ≡ x ∷ (y ∷ (z ∷ r))
-unfolding unpermuted permuted
-unpermuted-permuted d x y z r t h =
-    by-order (λ a b c. unpermuted d (order t a b c) (permuted d (order t a b c) (x ∷ (y ∷ (z ∷ r)))) ≡ x ∷ (y ∷ (z ∷ r))) refl refl refl refl refl refl t h
 
 -- the new file's flips, seen from the old one
 pub unpermuted-mirroredIn : (l m n i j k : ℕ) (ns is : List ℕ) (f g e : Bool) (t : Turn) → isPermutation t ≡ true
@@ -58,39 +52,34 @@ pub unpermuted-mirroredIn : (l m n i j k : ℕ) (ns is : List ℕ) (f g e : Bool
 unfolding unpermuted permuted mirroredIn
 unpermuted-mirroredIn l m n i j k ns is f g e t h =
     by-order
-    (λ a b c. unpermuted 0 (order t a b c) (mirroredIn (f ∷ (g ∷ (e ∷ []))) (permuted 0 (order t a b c) (l ∷ (m ∷ (n ∷ ns)))) (i ∷ (j ∷ (k ∷ is))))
-    ≡ mirroredIn (unpermuted false (order t a b c) (f ∷ (g ∷ (e ∷ [])))) (l ∷ (m ∷ (n ∷ ns))) (unpermuted 0 (order t a b c) (i ∷ (j ∷ (k ∷ is)))))
+    (λ a b c.
+    unpermuted 0 (order t a b c) (mirroredIn (f ∷ (g ∷ (e ∷ []))) (permuted 0 (order t a b c) (l ∷ (m ∷ (n ∷ ns)))) (i ∷ (j ∷ (k ∷ is))))
+    ≡ mirroredIn (unpermuted false (order t a b c) (f ∷ (g ∷ (e ∷ [])))) (l ∷ (m ∷ (n ∷ ns)))
+    (unpermuted 0 (order t a b c) (i ∷ (j ∷ (k ∷ is)))))
     refl refl refl refl refl refl t h
 
 -- two turns, one after the other
-pub permuted-twice : {A : Type 0} (d : A) (xs : List A) (t u : Turn) → isPermutation u ≡ true → permuted d u (permuted d t xs) ≡ permuted d (composed t u) xs
+pub permuted-twice : {A : Type 0} (d : A) (xs : List A) (t u : Turn) → isPermutation u ≡ true
+    → permuted d u (permuted d t xs) ≡ permuted d (composed t u) xs
 unfolding permuted composed
 permuted-twice d xs t u h =
-    by-order (λ a b c. permuted d (order u a b c) (permuted d t xs) ≡ permuted d (composed t (order u a b c)) xs) refl refl refl refl refl refl u h
+    by-order (λ a b c. permuted d (order u a b c) (permuted d t xs) ≡ permuted d (composed t (order u a b c)) xs)
+    refl refl refl refl refl refl u h
+
+abbrev BackTwice : {A : Type 0} (d : A) (xs : List A) (t u : Turn) → Type 0
+BackTwice d xs t u = unpermuted d t (unpermuted d u xs) ≡ unpermuted d (composed t u) xs
 
 pub unpermuted-twice : {A : Type 0} (d : A) (xs : List A) (t u : Turn) → isPermutation t ≡ true → isPermutation u ≡ true
     → unpermuted d t (unpermuted d u xs) ≡ unpermuted d (composed t u) xs
 unfolding unpermuted composed
 unpermuted-twice d xs t u h g =
-    by-order (λ a b c. unpermuted d (order t a b c) (unpermuted d u xs) ≡ unpermuted d (composed (order t a b c) u) xs)
-    (by-order (λ a b c. unpermuted d (order t 1 2 3) (unpermuted d (order u a b c) xs) ≡ unpermuted d (composed (order t 1 2 3) (order u a b c)) xs) refl refl refl refl refl refl u g)
-    (by-order (λ a b c. unpermuted d (order t 1 3 2) (unpermuted d (order u a b c) xs) ≡ unpermuted d (composed (order t 1 3 2) (order u a b c)) xs) refl refl refl refl refl refl u g)
-    (by-order (λ a b c. unpermuted d (order t 2 1 3) (unpermuted d (order u a b c) xs) ≡ unpermuted d (composed (order t 2 1 3) (order u a b c)) xs) refl refl refl refl refl refl u g)
-    (by-order (λ a b c. unpermuted d (order t 2 3 1) (unpermuted d (order u a b c) xs) ≡ unpermuted d (composed (order t 2 3 1) (order u a b c)) xs) refl refl refl refl refl refl u g)
-    (by-order (λ a b c. unpermuted d (order t 3 1 2) (unpermuted d (order u a b c) xs) ≡ unpermuted d (composed (order t 3 1 2) (order u a b c)) xs) refl refl refl refl refl refl u g)
-    (by-order (λ a b c. unpermuted d (order t 3 2 1) (unpermuted d (order u a b c) xs) ≡ unpermuted d (composed (order t 3 2 1) (order u a b c)) xs) refl refl refl refl refl refl u g)
-    t h
-
-pub composed-permutation : (t u : Turn) → isPermutation t ≡ true → isPermutation u ≡ true → isPermutation (composed t u) ≡ true
-unfolding composed
-composed-permutation t u h g =
-    by-order (λ a b c. isPermutation (composed (order t a b c) u) ≡ true)
-    (by-order (λ a b c. isPermutation (composed (order t 1 2 3) (order u a b c)) ≡ true) refl refl refl refl refl refl u g)
-    (by-order (λ a b c. isPermutation (composed (order t 1 3 2) (order u a b c)) ≡ true) refl refl refl refl refl refl u g)
-    (by-order (λ a b c. isPermutation (composed (order t 2 1 3) (order u a b c)) ≡ true) refl refl refl refl refl refl u g)
-    (by-order (λ a b c. isPermutation (composed (order t 2 3 1) (order u a b c)) ≡ true) refl refl refl refl refl refl u g)
-    (by-order (λ a b c. isPermutation (composed (order t 3 1 2) (order u a b c)) ≡ true) refl refl refl refl refl refl u g)
-    (by-order (λ a b c. isPermutation (composed (order t 3 2 1) (order u a b c)) ≡ true) refl refl refl refl refl refl u g)
+    by-order (λ a b c. BackTwice d xs (order t a b c) u)
+    (by-order (λ a b c. BackTwice d xs (order t 1 2 3) (order u a b c)) refl refl refl refl refl refl u g)
+    (by-order (λ a b c. BackTwice d xs (order t 1 3 2) (order u a b c)) refl refl refl refl refl refl u g)
+    (by-order (λ a b c. BackTwice d xs (order t 2 1 3) (order u a b c)) refl refl refl refl refl refl u g)
+    (by-order (λ a b c. BackTwice d xs (order t 2 3 1) (order u a b c)) refl refl refl refl refl refl u g)
+    (by-order (λ a b c. BackTwice d xs (order t 3 1 2) (order u a b c)) refl refl refl refl refl refl u g)
+    (by-order (λ a b c. BackTwice d xs (order t 3 2 1) (order u a b c)) refl refl refl refl refl refl u g)
     t h
 
 pub inverse-permutation : (t : Turn) → isPermutation t ≡ true → isPermutation (inverse t) ≡ true
@@ -111,7 +100,8 @@ composed-inverse t h =
     (rw (e1, e2, e3)) (rw (e1, e2, e3)) (rw (e1, e2, e3)) (rw (e1, e2, e3)) (rw (e1, e2, e3)) (rw (e1, e2, e3)) t h
 
 -- the same voxels in another order
-pub voxels-permuted : (l m n : ℕ) (ns : List ℕ) (t : Turn) → isPermutation t ≡ true → voxels (permuted 0 t (l ∷ (m ∷ (n ∷ ns)))) ≡ voxels (l ∷ (m ∷ (n ∷ ns)))
+pub voxels-permuted : (l m n : ℕ) (ns : List ℕ) (t : Turn) → isPermutation t ≡ true
+    → voxels (permuted 0 t (l ∷ (m ∷ (n ∷ ns)))) ≡ voxels (l ∷ (m ∷ (n ∷ ns)))
 unfolding voxels permuted
 voxels-permuted l m n ns t h =
     let v = voxels ns in

@@ -18,7 +18,8 @@ module _ (ns : List ℕ) (seven : length ns ≡ 7) where
 
   module _ (t : Turn) (ht : isPermutation t ≡ true) where
     -- an index is within the new lengths where it is within the old ones when it is taken back
-    pub within-seven : (i j k : ℕ) (is : List ℕ) → within (permuted 0 t ns) (i ∷ (j ∷ (k ∷ is))) ≡ within ns (unpermuted 0 t (i ∷ (j ∷ (k ∷ is))))
+    pub within-seven : (i j k : ℕ) (is : List ℕ)
+        → within (permuted 0 t ns) (i ∷ (j ∷ (k ∷ is))) ≡ within ns (unpermuted 0 t (i ∷ (j ∷ (k ∷ is))))
     within-seven i j k is =
         by-three (λ xs. within (permuted 0 t xs) (i ∷ (j ∷ (k ∷ is))) ≡ within xs (unpermuted 0 t (i ∷ (j ∷ (k ∷ is)))))
         (λ l m n r. within-permuted l m n i j k r is t ht)
@@ -32,13 +33,15 @@ module _ (ns : List ℕ) (seven : length ns ≡ 7) where
 
       -- "Each voxel's bytes are those of the voxel it came from"
       pub index-seven : (rest js : List ℕ) → within (permuted 0 t ns) js ≡ true
-          → take b (drop (b * voxelNumber (permuted 0 t ns) js) (reoriented b ns t s ++ rest)) ≡ take b (drop (b * voxelNumber ns (cameFrom t ns js)) s)
+          → take b (drop (b * voxelNumber (permuted 0 t ns) js) (reoriented b ns t s ++ rest))
+          ≡ take b (drop (b * voxelNumber ns (cameFrom t ns js)) s)
       index-seven rest js w =
           by-three
           (λ xs.
           b * voxels xs ≤ length s
           → within (permuted 0 t xs) js ≡ true
-          → take b (drop (b * voxelNumber (permuted 0 t xs) js) (reoriented b xs t s ++ rest)) ≡ take b (drop (b * voxelNumber xs (cameFrom t xs js)) s))
+          → take b (drop (b * voxelNumber (permuted 0 t xs) js) (reoriented b xs t s ++ rest))
+          ≡ take b (drop (b * voxelNumber xs (cameFrom t xs js)) s))
           (λ l m n r g v. reoriented-index l m n r b t s ht g rest js v) h w
 
       -- "One turn followed by another"
@@ -46,12 +49,14 @@ module _ (ns : List ℕ) (seven : length ns ≡ 7) where
           → reoriented b (permuted 0 t ns) u (reoriented b ns t s ++ rest) ≡ reoriented b ns (composed t u) s
       twice-seven u rest hu =
           by-three
-          (λ xs. b * voxels xs ≤ length s → reoriented b (permuted 0 t xs) u (reoriented b xs t s ++ rest) ≡ reoriented b xs (composed t u) s)
+          (λ xs. b * voxels xs ≤ length s
+          → reoriented b (permuted 0 t xs) u (reoriented b xs t s ++ rest) ≡ reoriented b xs (composed t u) s)
           (λ l m n r g. reoriented-twice l m n r b t s ht g u rest hu) h
 
       -- "a turn then its inverse"
       pub back-seven : (rest : List ℕ) → reoriented b (permuted 0 t ns) (inverse t) (reoriented b ns t s ++ rest) ≡ take (b * voxels ns) s
       back-seven rest =
           by-three
-          (λ xs. b * voxels xs ≤ length s → reoriented b (permuted 0 t xs) (inverse t) (reoriented b xs t s ++ rest) ≡ take (b * voxels xs) s)
+          (λ xs. b * voxels xs ≤ length s
+          → reoriented b (permuted 0 t xs) (inverse t) (reoriented b xs t s ++ rest) ≡ take (b * voxels xs) s)
           (λ l m n r g. reoriented-back l m n r b t s rest ht g) h

@@ -1,3 +1,4 @@
+-- `axis_of` meets its contract: a reversed axis starts at its end.
 use Rattle.reorient.proofs.axis_of.Statement.{statement}
 use Rattle.reorient.proofs.axis_of.Tie as tie
 

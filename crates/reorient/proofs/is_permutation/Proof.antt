@@ -1,3 +1,4 @@
+-- `is_permutation` meets its contract: each of 1 to 3 is named.
 use mathlib.Core.Path.{_≡_, sym, _∙_}
 use mathlib.Core.Bool.{true, false}
 use Rattle.reorient.specs.Reorient.{named}

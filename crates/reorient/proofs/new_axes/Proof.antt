@@ -1,36 +1,41 @@
+-- `new_axes` meets its contract: the axes of a permutation are 1 to 3, and the last four stay.
 use native.Mathlib.Omega.{arith}
 use Rattle.reorient.specs.Reorient.{permuted, noAxis}
-use Rattle.reorient.proofs.Axes.{bounds, last-four}
+use Rattle.reorient.proofs.Axes.{From1To3, bounds, last-four}
 use borrow.Author.Needs.{needs}
 use Rattle.reorient.proofs.new_axes.Statement.{statement}
 use Rattle.reorient.proofs.new_axes.Tie as tie
 
+-- the axes are 1 to 3
+small : (s : tie.Start) → let t = s .args .t in From1To3 (t .axis1) (t .axis2) (t .axis3)
+small s = bounds (s .args .t) (s .pre)
+
 sub-i : tie.Need-sub-i
-sub-i c = let h = bounds (c .before .args .t) (c .before .pre) in omega (arith, h .low1, h .low2, h .low3, h .high1, h .high2, h .high3)
+sub-i c = omega (arith, small (c .before) .low1)
 
 sub-j : tie.Need-sub-j
-sub-j c = let h = bounds (c .before .before .args .t) (c .before .before .pre) in omega (arith, h .low1, h .low2, h .low3, h .high1, h .high2, h .high3)
+sub-j c = omega (arith, small (c .before .before) .low2)
 
 sub-k : tie.Need-sub-k
-sub-k c = let h = bounds (c .before .before .before .args .t) (c .before .before .before .pre) in omega (arith, h .low1, h .low2, h .low3, h .high1, h .high2, h .high3)
+sub-k c = omega (arith, small (c .before .before .before) .low3)
 
 mul-t7 : tie.Need-mul-t7
-mul-t7 c = let h = bounds (c .before .before .before .args .t) (c .before .before .before .pre) in omega (arith, h .low1, h .low2, h .low3, h .high1, h .high2, h .high3)
+mul-t7 c = omega (arith, small (c .before .before .before) .high1)
 
 array-copy-out-t10 : tie.Need-array-copy-out-t10
-array-copy-out-t10 c = let h = bounds (c .before .before .before .args .t) (c .before .before .before .pre) in omega (arith, h .low1, h .low2, h .low3, h .high1, h .high2, h .high3)
+array-copy-out-t10 c = omega (arith, small (c .before .before .before) .high1)
 
 mul-t11 : tie.Need-mul-t11
-mul-t11 c = let h = bounds (c .before .before .before .before .args .t) (c .before .before .before .before .pre) in omega (arith, h .low1, h .low2, h .low3, h .high1, h .high2, h .high3)
+mul-t11 c = omega (arith, small (c .before .before .before .before) .high2)
 
 array-copy-out-t14 : tie.Need-array-copy-out-t14
-array-copy-out-t14 c = let h = bounds (c .before .before .before .before .args .t) (c .before .before .before .before .pre) in omega (arith, h .low1, h .low2, h .low3, h .high1, h .high2, h .high3)
+array-copy-out-t14 c = omega (arith, small (c .before .before .before .before) .high2)
 
 mul-t15 : tie.Need-mul-t15
-mul-t15 c = let h = bounds (c .before .before .before .before .before .args .t) (c .before .before .before .before .before .pre) in omega (arith, h .low1, h .low2, h .low3, h .high1, h .high2, h .high3)
+mul-t15 c = omega (arith, small (c .before .before .before .before .before) .high3)
 
 array-copy-out-t18 : tie.Need-array-copy-out-t18
-array-copy-out-t18 c = let h = bounds (c .before .before .before .before .before .args .t) (c .before .before .before .before .before .pre) in omega (arith, h .low1, h .low2, h .low3, h .high1, h .high2, h .high3)
+array-copy-out-t18 c = omega (arith, small (c .before .before .before .before .before) .high3)
 
 array-copy-out-t21 : tie.Need-array-copy-out-t21
 array-copy-out-t21 c = search needs

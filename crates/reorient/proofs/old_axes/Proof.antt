@@ -62,12 +62,13 @@ loop-again c =
     let v = c .before .before .before .loop in
     let s = c .before .before .before .before in
     let a = s .args in
-    let next = step-next (v .step) (a .t1) (v .k) (a .b * voxels (a .t1)) (omega arith) (v .inv .2) (v .inv .3) in (
+    let next = step-next (v .step) (a .t1) (v .k) (a .b * voxels (a .t1)) (omega arith) (v .inv .2) (v .inv .3) in
+    let made = c .axis-of .ensures ∙ ap (axisOf (getD (a .t1) (v .k) 0) (v .step)) (c .before .reversed-at .ensures) in (
       omega arith,
       simp length-set (v .inv .1),
       next .left,
       next .some,
-      axes-next (v .axes) _ _ (v .step) (reversals (a .t)) (a .t1) (v .k) (omega arith) (omega arith) (c .axis-of .ensures ∙ ap (axisOf (getD (a .t1) (v .k) 0) (v .step)) (c .before .reversed-at .ensures)) (v .inv .4),
+      axes-next (v .axes) _ _ (v .step) (reversals (a .t)) (a .t1) (v .k) (omega arith) (omega arith) made (v .inv .4),
     )
 
 returns : tie.Need-returns Inv-loop μ-loop

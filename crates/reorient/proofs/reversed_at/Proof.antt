@@ -1,3 +1,4 @@
+-- `reversed_at` meets its contract: only the first three axes can be reversed.
 use mathlib.Core.Path.{sym}
 use mathlib.Core.Bool.{false}
 use native.Mathlib.Omega.{arith}
