@@ -20,11 +20,6 @@ use Rattle.reorient.proofs.Orders.{voxels-permuted}
 use Rattle.reorient_header.specs.After.{entriesAfter, dimsAfter}
 
 module _ (t : Turn) (dim : List ℤ) where
-  -- dim[0] stays,
-  pub dim-0 : dimAt (dimsAfter t dim) 0 ≡ dimAt dim 0
-  unfolding entriesAfter
-  dim-0 = refl
-
   -- dim[1] to dim[3] are those of the old axes that are shown, and the others stay
   old-at : (k : ℕ) → 1 ≤ k → getD (drop 1 dim) (k - 1) (pos 0) ≡ dimAt dim k
   old-at k h =
@@ -53,7 +48,7 @@ module _ (t : Turn) (dim : List ℤ) where
   module _ (ht : isPermutation t ≡ true) (n : ℕ) (three : 3 ≤ n) where
     -- rule 5
     none-after : NoneBelow dim n → NoneBelow (dimsAfter t dim) n
-    none-after h zero l m = let no : ⊥ = omega arith in absurd no
+    none-after h zero l m = absurd (omega arith)
     none-after h (suc zero) l m = let b = bounds t ht in rw (dim-1 ht) (h (t .axis1) (b .low1) (omega (arith, b .high1)))
     none-after h (suc (suc zero)) l m = let b = bounds t ht in rw (dim-2 ht) (h (t .axis2) (b .low2) (omega (arith, b .high2)))
     none-after h (suc (suc (suc zero))) l m = let b = bounds t ht in rw (dim-3 ht) (h (t .axis3) (b .low3) (omega (arith, b .high3)))

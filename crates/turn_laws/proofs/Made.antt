@@ -80,8 +80,8 @@ module _ {file image : List ℕ} {t : Turn} {newFile newImage : List ℕ} (w : T
   pub file-is : newFile ≡ fileAfter t header file
   unfolding turnedOut
   file-is =
-      w .isFile
-      ∙ rw (answered .0) (take-front (w .out) (fileAfter t header file) (w .lengths .file) (ap (λ (n : Lengths). n .file) lengths-are ∙ sym length-file))
+      let n : w .lengths .file ≡ length (fileAfter t header file) = ap (λ (l : Lengths). l .file) lengths-are ∙ sym length-file in
+      w .isFile ∙ rw (answered .0) (take-front (w .out) (fileAfter t header file) (w .lengths .file) n)
 
   length-image : (kind : Kind) → header .kind ≡ kind → imageLength kind (length image) ≡ length (imageBy kind t header image)
   length-image Single e = refl
@@ -135,7 +135,8 @@ module _ {file image : List ℕ} {t : Turn} {newFile newImage : List ℕ} (w : T
   dropped-by : (kind : Kind) → header .kind ≡ kind
       → drop offset (holder kind (withHeader (headerAfter t header) (ownAfter kind t header file)) (imageBy kind t header image))
       ≡ reoriented (voxelBytes header) (lengthsOf header) t (drop offset (holder kind file image))
-      ++ drop (offset + length (reoriented (voxelBytes header) (lengthsOf header) t (drop offset (holder kind file image)))) (holder kind file image)
+      ++ drop (offset + length (reoriented (voxelBytes header) (lengthsOf header) t (drop offset (holder kind file image))))
+      (holder kind file image)
   unfolding holderAfter
   dropped-by Single e =
       let room : offset ≤ length file = omega (arith, rw e at held) in

@@ -1,5 +1,6 @@
--- Positions after a turn, where they are exact. 02-change-requests.md, P10: "Positions aren't in that law: sums round." In the case of whole
--- numbers that 01-scope.md states for the old rows no sum rounds, and the new file's position of a voxel is that of the voxel it came from.
+-- Positions after a turn, where they are exact. 02-change-requests.md, P10: "Positions aren't in that law: sums round." In the case of
+-- whole numbers that 01-scope.md states for the old rows no sum rounds, and the new file's position of a voxel is that of the voxel it
+-- came from.
 use Prim.Native.Nat.{ℕ, _-_, _≤_, _<_}
 use mathlib.Core.Path.{_≡_, refl, sym, ap, subst, _∙_}
 use mathlib.Core.Bool.{true, false}
@@ -45,7 +46,8 @@ module _ (t : Turn) (ht : isPermutation t ≡ true) (dim : List ℤ) (three : 3 
   old-axes : threeAxes dim ≡ lengths
   old-axes =
       λ i.
-      sym (length-stated dim 1 (omega arith)) i ∷ (sym (length-stated dim 2 (omega arith)) i ∷ (sym (length-stated dim 3 (omega arith)) i ∷ []))
+      sym (length-stated dim 1 (omega arith)) i
+      ∷ (sym (length-stated dim 2 (omega arith)) i ∷ (sym (length-stated dim 3 (omega arith)) i ∷ []))
 
   shown-length : (axis : ℕ) → 1 ≤ axis → axis ≤ 3 → lengthIn dim axis ≡ getD lengths (axis - 1) 0
   shown-length axis low high = by-axis (λ o. lengthIn dim o ≡ getD lengths (o - 1) 0) refl refl refl axis low high
@@ -135,7 +137,7 @@ module _ {file image : List ℕ} {t : Turn} {newFile newImage : List ℕ} (all :
       (turned-exact (rows .x) (rows .y) (rows .z) t ht (lengthIn dim 1) (lengthIn dim 2) (lengthIn dim 3)
       (small 1 (omega arith) (l .0)) (small 2 (omega arith) (l .1)) (small 3 (omega arith) (l .2)) [] i j k [] inside)))
 
-  from-inside : within three (getD (cameFrom t three index) 0 0 ∷ (getD (cameFrom t three index) 1 0 ∷ (getD (cameFrom t three index) 2 0 ∷ []))) ≡ true
+  from-inside : let old : List ℕ = cameFrom t three index in within three (getD old 0 0 ∷ (getD old 1 0 ∷ (getD old 2 0 ∷ []))) ≡ true
   unfolding cameFrom mirroredIn unpermuted
   from-inside =
       mirroredIn-within (reversals t) three (unpermuted 0 t index)

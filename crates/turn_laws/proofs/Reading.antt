@@ -31,11 +31,12 @@ use Rattle.encode.proofs.Back.{Writable, header-read, read-writable}
 use Rattle.rules.specs.declared.Shape.{Shape}
 use Rattle.rules.specs.Rules.{oneToSeven, axisCount, bytesOfImage, imageOf, shapeOfRecord, cutShort, regionEnd}
 use Rattle.rules.proofs.Passed.{Fields}
-use Rattle.layout.specs.File.{holdsIn, orderOf, sameBytes, hasMagic, kindOf, shapeIn, shapeOf, extenderOf, noExtensions, someExtensions, hasNone, hasExtensions}
-use Rattle.layout.specs.File.{layoutOf, endOf}
+use Rattle.layout.specs.File.{holdsIn, orderOf, sameBytes, hasMagic, kindOf, shapeIn, shapeOf, layoutOf, endOf}
+use Rattle.layout.specs.File.{extenderOf, noExtensions, someExtensions, hasNone, hasExtensions}
 use Rattle.reader.specs.declared.Reading.{Reading}
 use Rattle.reader.specs.Reading.{extensionsOf, readingOf, IsAccepted}
-use Rattle.reader.proofs.File.{same-is, extended-region, Rules, AcceptedFile, judged-file, file-judged, file-reads, accepted-file, shape-rows, accepted-reads}
+use Rattle.reader.proofs.File.{same-is, extended-region, Rules, AcceptedFile, judged-file, file-judged, file-reads}
+use Rattle.reader.proofs.File.{accepted-file, shape-rows, accepted-reads}
 use Rattle.reader.proofs.Theorems.{never-both}
 use Rattle.reorient.specs.declared.Turn.{Turn}
 use Rattle.reorient.specs.Reorient.{isPermutation}
@@ -138,7 +139,10 @@ module _ (s : List ℕ) (xs : List Span) (f : AcceptedFile s xs) (t : Turn) (ht 
   new-extender =
       tabulate-same (λ i. getD new (348 + i) 0) (λ i. getD s (348 + i) 0) 4
       (λ i h.
-      sym (getD-drop 348 new i 0) ∙ ap (λ (l : List ℕ). getD l i 0) (behind 348 (omega arith)) ∙ getD-drop 348 own i 0 ∙ own-extender k refl i h)
+      sym (getD-drop 348 new i 0)
+      ∙ ap (λ (l : List ℕ). getD l i 0) (behind 348 (omega arith))
+      ∙ getD-drop 348 own i 0
+      ∙ own-extender k refl i h)
 
   new-some : hasExtensions new ≡ hasExtensions s
   unfolding hasExtensions
@@ -210,9 +214,6 @@ module _ (s : List ℕ) (xs : List Span) (f : AcceptedFile s xs) (t : Turn) (ht 
 
       -- ---- the rules, and the list
 
-      new-layout : layoutOf new ≡ layoutOf s
-      new-layout = λ i. record { order = new-order i; kind = new-kind i; image = new-image i }
-
       fields-new : Fields turned (length s)
       unfolding shapeIn headerOf entriesAfter
       fields-new =
@@ -246,7 +247,9 @@ module _ (s : List ℕ) (xs : List Span) (f : AcceptedFile s xs) (t : Turn) (ht 
       new-rest : hasExtensions s ≡ true → restOf new (endOf s) firstPlace ≡ restOf s (endOf s) firstPlace
       new-rest e =
           let b = extended-region s (f .rules) e in
-          drop-take firstPlace (endOf s) new ∙ new-part firstPlace (endOf s - firstPlace) (omega arith) (omega arith) ∙ sym (drop-take firstPlace (endOf s) s)
+          drop-take firstPlace (endOf s) new
+          ∙ new-part firstPlace (endOf s - firstPlace) (omega arith) (omega arith)
+          ∙ sym (drop-take firstPlace (endOf s) s)
 
       walked-new : extensionsOf (layoutOf new) new ≡ listed xs
       unfolding extensionsIn endOf
@@ -255,7 +258,8 @@ module _ (s : List ℕ) (xs : List Span) (f : AcceptedFile s xs) (t : Turn) (ht 
           ∙ by (hasExtensions s) refl
           ∙ f .walked
         where
-          by : (b : Bool) → hasExtensions s ≡ b → cond b (extensionsIn o (endOf s) new) (listed []) ≡ cond b (extensionsIn o (endOf s) s) (listed [])
+          by : (b : Bool) → hasExtensions s ≡ b
+              → cond b (extensionsIn o (endOf s) new) (listed []) ≡ cond b (extensionsIn o (endOf s) s) (listed [])
           by true e = ap (walk o extensionLimit firstPlace) (new-rest e)
           by false e = refl
 
@@ -266,5 +270,9 @@ module _ (s : List ℕ) (xs : List Span) (f : AcceptedFile s xs) (t : Turn) (ht 
       pub new-reads : readingOf new ≡ record { verdict = Accepted; header = headerAfter t old; image = imageOf (shapeOf s) }
       new-reads =
           file-reads new xs new-file
-          ∙ (λ i. record { verdict = Accepted; header = headerOf (new-order i) (new-kind i) (length xs) (spansOf xs) new; image = new-image i })
+          ∙ (λ i. record {
+            verdict = Accepted;
+            header = headerOf (new-order i) (new-kind i) (length xs) (spansOf xs) new;
+            image = new-image i;
+          })
           ∙ (λ i. record { verdict = Accepted; header = new-header i; image = imageOf (shapeOf s) })

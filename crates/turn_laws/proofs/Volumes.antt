@@ -57,13 +57,15 @@ module _ {file image : List ℕ} {t : Turn} {newFile newImage : List ℕ} (w : T
   image-take : take (imageIn header .bytes) (drop (offset w) (holder (header .kind) newFile newImage)) ≡ turnedImage w
   image-take =
       let size = length-seven ns seven t ht (voxelBytes header) (drop (offset w) (held-in w)) room in
-      ap (take (imageIn header .bytes)) (image-dropped w) ∙ take-at (turnedImage w) (rest w) (imageIn header .bytes) (size ∙ sym (image-voxels header))
+      ap (take (imageIn header .bytes)) (image-dropped w)
+      ∙ take-at (turnedImage w) (rest w) (imageIn header .bytes) (size ∙ sym (image-voxels header))
 
   pub image-after : Writable header → imageBytesIn newFile newImage ≡ turnedImage w
   unfolding imageBytesIn headerAfter
   image-after wr =
       ap (λ (r : Reading). take (r .image .bytes) (drop (r .image .offset) (holder (r .header .kind) newFile newImage))) (new-record w wr)
-      ∙ ap (λ (i : Image). take (i .bytes) (drop (i .offset) (holder (header .kind) newFile newImage))) (sym (record-image file (was-accepted w)))
+      ∙ ap (λ (i : Image). take (i .bytes) (drop (i .offset) (holder (header .kind) newFile newImage)))
+      (sym (record-image file (was-accepted w)))
       ∙ image-take
 
   pub image-before : imageBytesIn file image ≡ take (voxelBytes header * voxels ns) (drop (offset w) (held-in w))
@@ -73,7 +75,8 @@ module _ {file image : List ℕ} {t : Turn} {newFile newImage : List ℕ} (w : T
       ∙ ap (λ (n : ℕ). take n (drop (offset w) (held-in w))) (image-voxels header)
 
 -- ---- a turn, and then another
-module _ {file image : List ℕ} {t u : Turn} {file′ image′ file″ image″ : List ℕ} (w : Turns file image t file′ image′) (v : Turns file′ image′ u file″ image″)
+module _ {file image : List ℕ} {t u : Turn} {file′ image′ file″ image″ : List ℕ}
+    (w : Turns file image t file′ image′) (v : Turns file′ image′ u file″ image″)
     (wr : Writable (readingOf file .header)) where
   abbrev old : Header
   old = readingOf file .header

@@ -35,7 +35,8 @@ use Rattle.turn_laws.proofs.Volumes.{ns, ht, seven, room, lengths-after
 use Rattle.turn_laws.proofs.Theorems.{turned-reads}
 
 -- of an accepted file whose image is whole, 17 alone is still to be given
-located : (file image index : List ℕ) (b : Bool) → let h = readingOf file .header in IsAccepted file → imageCut (h .kind) (length image) (imageIn h) ≡ false
+located : (file image index : List ℕ) (b : Bool) → let h = readingOf file .header in
+    IsAccepted file → imageCut (h .kind) (length image) (imageIn h) ≡ false
     → within (lengthsOf h) index ≡ b → locatedOf file image index ≡ cond b (At (extentOf h index)) (Unlocated (refusal 17 0))
 unfolding verdict
 located file image index true a c e = accepted-located file image index a ∙ rw (c, e)
@@ -81,10 +82,12 @@ module _ {file image : List ℕ} {t : Turn} {newFile newImage : List ℕ} (all :
 
     -- an index that is outside: 17, and so it is in the old file when it is taken back
     pub turned-outside : within (permuted 0 t (lengthsOf header)) index ≡ false
-        → (locatedOf newFile newImage index ≡ Unlocated (refusal 17 0)) × (locatedOf file image (unpermuted 0 t index) ≡ Unlocated (refusal 17 0))
+        → (locatedOf newFile newImage index ≡ Unlocated (refusal 17 0))
+        × (locatedOf file image (unpermuted 0 t index) ≡ Unlocated (refusal 17 0))
     turned-outside e = (
       located newFile newImage index false new-accepted new-whole (ap (λ (l : List ℕ). within l index) new-lengths ∙ e),
-      located file image (unpermuted 0 t index) false (was-accepted w) (was-allowed w .whole) (sym (within-seven (ns w) (seven w) t (ht w) i j k is) ∙ e),
+      located file image (unpermuted 0 t index) false (was-accepted w) (was-allowed w .whole)
+          (sym (within-seven (ns w) (seven w) t (ht w) i j k is) ∙ e),
     )
 
     module _ (e : within (permuted 0 t (lengthsOf header)) index ≡ true) where
@@ -94,7 +97,8 @@ module _ {file image : List ℕ} {t : Turn} {newFile newImage : List ℕ} (all :
       from-within : within (lengthsOf header) from ≡ true
       unfolding cameFrom
       from-within =
-          mirroredIn-within (reversals t) (lengthsOf header) (unpermuted 0 t index) (sym (within-seven (ns w) (seven w) t (ht w) i j k is) ∙ e)
+          mirroredIn-within (reversals t) (lengthsOf header) (unpermuted 0 t index)
+          (sym (within-seven (ns w) (seven w) t (ht w) i j k is) ∙ e)
 
       -- an index that is inside: both have a place,
       pub turned-located : (locatedOf newFile newImage index ≡ At (extentOf (headerAfter t header) index))
@@ -112,9 +116,11 @@ module _ {file image : List ℕ} {t : Turn} {newFile newImage : List ℕ} (all :
           let b = voxelBytes header in
           let n = voxelNumber (permuted 0 t (ns w)) index in
           let m = voxelNumber (ns w) from in
+          let after : List ℕ = lengthsOf (headerAfter t header) in
           voxel-at newFile newImage index _ (turned-located .0)
-          ∙ ap (λ (h : Header). take b (drop (offset w + b * voxelNumber (lengthsOf (headerAfter t header)) index) (holder (h .kind) newFile newImage))) new-header
-          ∙ ap (λ (l : List ℕ). take b (drop (offset w + b * voxelNumber l index) (holder (header .kind) newFile newImage))) (lengths-after w)
+          ∙ ap (λ (h : Header). take b (drop (offset w + b * voxelNumber after index) (holder (h .kind) newFile newImage))) new-header
+          ∙ ap (λ (l : List ℕ). take b (drop (offset w + b * voxelNumber l index) (holder (header .kind) newFile newImage)))
+          (lengths-after w)
           ∙ ap (take b) (sym (drop-drop (b * n) (offset w) (holder (header .kind) newFile newImage)))
           ∙ ap (λ (l : List ℕ). take b (drop (b * n) l)) (image-dropped w)
           ∙ index-seven (ns w) (seven w) t (ht w) b (drop (offset w) (held-in w)) (room w) (rest w) index e
