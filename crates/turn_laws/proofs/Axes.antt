@@ -1,7 +1,7 @@
 -- The dims of a turned record: each of the first three is that of an old axis, so rule 5 passes them, and the seven lengths are the old
 -- ones permuted, with as many voxels.
 use Prim.Native.Nat.{ℕ, zero, suc, _+_, _-_, _*_, _≤_, _<_}
-use mathlib.Core.Path.{_≡_, refl, sym, ap, _∙_}
+use mathlib.Core.Path.{_≡_, sym, ap, _∙_}
 use mathlib.Core.Bool.{true}
 use mathlib.Core.List.{List}
 use native.Mathlib.Omega.{arith}

@@ -137,7 +137,8 @@ module _ {file image : List ℕ} {t : Turn} {newFile newImage : List ℕ} (all :
       (turned-exact (rows .x) (rows .y) (rows .z) t ht (lengthIn dim 1) (lengthIn dim 2) (lengthIn dim 3)
       (small 1 (omega arith) (l .0)) (small 2 (omega arith) (l .1)) (small 3 (omega arith) (l .2)) [] i j k [] inside)))
 
-  from-inside : let old : List ℕ = cameFrom t three index in within three (getD old 0 0 ∷ (getD old 1 0 ∷ (getD old 2 0 ∷ []))) ≡ true
+  from-inside : within three
+      (getD (cameFrom t three index) 0 0 ∷ (getD (cameFrom t three index) 1 0 ∷ (getD (cameFrom t three index) 2 0 ∷ []))) ≡ true
   unfolding cameFrom mirroredIn unpermuted
   from-inside =
       mirroredIn-within (reversals t) three (unpermuted 0 t index)

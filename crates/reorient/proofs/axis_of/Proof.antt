@@ -1,4 +1,4 @@
--- `axis_of` meets its contract: a reversed axis starts at its end.
+-- `axis_of` meets its contract: a reversed axis steps down.
 use Rattle.reorient.proofs.axis_of.Statement.{statement}
 use Rattle.reorient.proofs.axis_of.Tie as tie
 
