@@ -1,18 +1,15 @@
--- `print_from` is safe and ends: the loop's own test keeps the index inside the file, and the measure is what is left of it.
+-- `print_bytes` is safe and ends: the loop's own test keeps the index inside the part, and the measure is what is left of it.
 use Prim.Native.Nat.{_-_}
 use lib.ListN.{length}
 use borrow.Author.Needs.{needs}
-use Rattle.turn_table.proofs.print_from.Statement.{statement}
-use Rattle.turn_table.proofs.print_from.Tie as tie
+use Rattle.turn_table.proofs.print_bytes.Statement.{statement}
+use Rattle.turn_table.proofs.print_bytes.Tie as tie
 
 abbrev Inv-loop : tie.InvT-loop
-Inv-loop file from k₀ t5 k = Unit {0}
+Inv-loop name part k₀ t4 k = Unit {0}
 
 abbrev μ-loop : tie.MeasureT-loop
-μ-loop file from k₀ t5 k = length file - k
-
-slice-aggregate-say : tie.Need-slice-aggregate-say Inv-loop μ-loop
-slice-aggregate-say c = search needs
+μ-loop name part k₀ t4 k = length part - k
 
 say-requires : tie.Need-say-requires Inv-loop μ-loop
 say-requires c κs = search needs
@@ -35,8 +32,8 @@ loop-less c = search needs
 loop-again : tie.Need-loop-again Inv-loop μ-loop
 loop-again c = tt
 
-slice-aggregate-say-2 : tie.Need-slice-aggregate-say-2 Inv-loop μ-loop
-slice-aggregate-say-2 c = search needs
+slice-aggregate-say : tie.Need-slice-aggregate-say Inv-loop μ-loop
+slice-aggregate-say c = search needs
 
 say-requires-2 : tie.Need-say-requires-2 Inv-loop μ-loop
 say-requires-2 c κs = search needs
@@ -44,13 +41,12 @@ say-requires-2 c κs = search needs
 returns : tie.Need-returns Inv-loop μ-loop
 returns c = search needs
 
-pub print-from-spec : {M : Type 1} → statement M
-print-from-spec =
+pub print-bytes-spec : {M : Type 1} → statement M
+print-bytes-spec =
     tie.close
     (tie.spec
     Inv-loop
     μ-loop
-    slice-aggregate-say
     say-requires
     loop-holds
     shared-slice-read-say-byte
@@ -58,6 +54,6 @@ print-from-spec =
     add-k
     loop-less
     loop-again
-    slice-aggregate-say-2
+    slice-aggregate-say
     say-requires-2
     returns)
