@@ -2,7 +2,7 @@
 -- reading is the old one in the other byte order (`reading-swapped`).
 use Prim.Native.Nat.{ℕ, _+_, _-_, _*_, _≤_, _<_}
 use mathlib.Core.Path.{_≡_, refl, sym, ap, _∙_}
-use mathlib.Core.Bool.{Bool, true, false, _||_}
+use mathlib.Core.Bool.{Bool, true, false}
 use mathlib.Core.List.{List, [], _∷_, _++_}
 use native.Mathlib.Omega.{arith}
 use native.Mathlib.Nat.{mul-one}
@@ -23,7 +23,7 @@ use Rattle.header.specs.declared.Kind.the-variants.{Single, Pair}
 use Rattle.header.specs.Fields.{headerOf, inOrder}
 use Rattle.rules.specs.declared.Image.{Image}
 use Rattle.rules.specs.Rules.{imageOf, cutShort, regionEnd}
-use Rattle.layout.specs.File.{holdsIn, orderOf, hasMagic, kindOf, shapeIn, shapeOf, extenderOf, hasNone, hasExtensions, cutExtender, layoutOf, endOf}
+use Rattle.layout.specs.File.{holdsIn, orderOf, hasMagic, kindOf, shapeIn, shapeOf, extenderOf, hasExtensions, cutExtender, layoutOf, endOf}
 use Rattle.reader.specs.Reading.{extensionsOf, readingOf}
 use Rattle.reader.proofs.File.{regionOf, Rules, AcceptedFile, judged-file, file-judged, file-reads}
 use Rattle.units.specs.Runs.{Run, run, turnRuns, headerRuns}
@@ -121,17 +121,13 @@ module _ {s : List ℕ} {xs : List Span} (f : AcceptedFile s xs) where
   pub unit-is : unitFor swapped ≡ unitFor s
   unit-is = ap (λ (o : Order). unitIn o swapped) order-is ∙ unit-same rest s spans (orderOf s)
 
-  -- the extender, and so both tests of it
-  extender-is : extenderOf swapped ≡ extenderOf s
+  -- the extender, and so what it says
+  pub extender-is : extenderOf swapped ≡ extenderOf s
   extender-is = extender-same (kindOf s) (placeOf s) (unitFor s) s xs (f .rules .long) (f .begins) spans
 
   some-is : hasExtensions swapped ≡ hasExtensions s
   unfolding hasExtensions
   some-is = cc extender-is
-
-  none-is : hasNone swapped ≡ hasNone s
-  unfolding hasNone
-  none-is = cc extender-is
 
   rules-are : Rules swapped
   rules-are =
@@ -144,7 +140,6 @@ module _ {s : List ℕ} {xs : List Span} (f : AcceptedFile s xs) where
         fields = rw (shape-is, length-is) (r .fields);
         whole = (λ i. cutShort (kind-is i) (length-is i) (imageOf (shape-is i))) ∙ r .whole;
         extended = (λ i. cutExtender (kind-is i) (length-is i)) ∙ r .extended;
-        extender = (λ i. none-is i || some-is i) ∙ r .extender;
       }
 
   walked : hasExtensions s ≡ true → extensionsIn (orderOf swapped) (regionEnd (kindOf swapped) (placeOf swapped) (length swapped)) swapped ≡ listed xs

@@ -22,7 +22,7 @@ use Rattle.header.specs.declared.Kind.the-variants.{Single}
 use Rattle.header.specs.Fields.{headerOf}
 use Rattle.rules.specs.declared.Shape.{Shape}
 use Rattle.rules.specs.Rules.{imageOf, imageCut, holder}
-use Rattle.layout.specs.File.{kindOf, shapeIn, shapeOf, layoutOf, endOf}
+use Rattle.layout.specs.File.{kindOf, shapeIn, shapeOf, extenderOf, layoutOf, endOf}
 use Rattle.reader.specs.declared.Reading.{Reading}
 use Rattle.reader.specs.Reading.{judgement, readingBy, readingOf, IsAccepted}
 use Rattle.reader.proofs.File.{accepted-shape}
@@ -32,7 +32,7 @@ use Rattle.byteswap.specs.Swap.{unlessCut, fileRuns, swapList, answerBy,
 use Rattle.byteswap.specs.Other.{readInOther}
 use Rattle.byteswap.proofs.Whole.{placeOf, unitFor, room, unit-known, image-single}
 use Rattle.byteswap.proofs.Answers.{swaps-stopped, image-turned}
-use Rattle.byteswap.proofs.Swapped.{reading-swapped, length-is}
+use Rattle.byteswap.proofs.Swapped.{reading-swapped, length-is, extender-is}
 use Rattle.byteswap.proofs.Again.{accepts, file-is, image-length, image-room, listed-again, file-back, image-back, partAt, voxel-turned}
 
 -- ---- The answer
@@ -174,6 +174,10 @@ module _ (file image : List ℕ) (a : swapAnswer file image ≡ Accepted) where
   -- the swapped file reads as the same record, in the other order
   pub swap-reads : readingOf (swappedFile file image) ≡ readInOther (readingOf file)
   swap-reads = reads-swapped file image (swaps .0) (swaps .1)
+
+  -- the extender stays, with its reserved bytes
+  pub swap-extender : extenderOf (swappedFile file image) ≡ extenderOf file
+  swap-extender = ap extenderOf (file-is file image (swaps .0) (swaps .1)) ∙ extender-is (accepts file image (swaps .0) (swaps .1))
 
   -- the voxel of the datatype's bytes that k others are before: its units are turned round, each in its place
   module _ (t : Format) (d : datatypeOf (shapeOf file .datatype) ≡ Known t) where

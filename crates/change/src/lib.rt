@@ -46,7 +46,7 @@ pub fn offers_negative(change: Change, code: i32) -> bool
     }
 }
 
-// Rule 20: with 1,0,0,0 as the extender there are extensions, and with a zero one there are none.
+// Rule 20. An accepted file has no extensions exactly where its extender is zero.
 pub fn enters_bytes(change: Change, count: usize, end: usize) -> bool
     ensures { λ r. ⌜ r ≡ entersBytes change count end ⌝ }
 {

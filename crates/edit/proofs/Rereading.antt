@@ -2,7 +2,7 @@
 -- the edit.
 use Prim.Native.Nat.{ℕ, suc, _+_, _-_, _%_, _≤_, _<_}
 use mathlib.Core.Path.{_≡_, refl, sym, ap, _∙_}
-use mathlib.Core.Bool.{true, false, _||_, and-false}
+use mathlib.Core.Bool.{true, false, and-false}
 use mathlib.Core.List.{List, [], _∷_, _++_, append-assoc}
 use native.Mathlib.Omega.{arith}
 use borrow.Author.Tests.{ltb-false, le-ltb}
@@ -13,7 +13,7 @@ use lib.Seq.{take-at, drop-at}
 use mir.Syntax.{w32}
 use mir.Val.{toZ}
 use Rattle.field.specs.declared.Order.{Order}
-use Rattle.field.specs.Numbers.{bytesAt, u32At, i32At, joined}
+use Rattle.field.specs.Numbers.{u32At, i32At, joined}
 use Rattle.field.proofs.Tabulate.{bytesAt-part}
 use Rattle.refusal.specs.declared.Verdict.the-variants.{Accepted}
 use Rattle.number.proofs.Lists.{drop-take}
@@ -32,8 +32,8 @@ use Rattle.rules.specs.declared.Shape.{Shape}
 use Rattle.rules.specs.declared.Image.{Image}
 use Rattle.rules.specs.Rules.{imageOf, offsetOutside, shapeOfRecord, cutShort, regionEnd}
 use Rattle.rules.proofs.Passed.{neither, Fields}
-use Rattle.layout.specs.File.{orderOf, kindOf, shapeIn, shapeOf, cutExtender, hasNone, hasExtensions}
-use Rattle.layout.specs.File.{noExtensions, someExtensions, sameBytes, layoutOf, endOf}
+use Rattle.layout.specs.File.{orderOf, kindOf, shapeIn, shapeOf, cutExtender, extenderOf, saysSome, hasExtensions}
+use Rattle.layout.specs.File.{layoutOf, endOf}
 use Rattle.reader.specs.declared.Reading.{Reading}
 use Rattle.reader.specs.Reading.{extensionsOf, readingOf}
 use Rattle.reader.proofs.File.{regionOf, Rules, AcceptedFile, judged-file, file-judged, file-reads}
@@ -130,7 +130,7 @@ module _ (f : List ℕ) (xs : List (List ℕ)) (long : 348 ≤ length f) where
       let l = length-top (kindOf f) (orderOf f) (endFor xs) f long in
       length-append head (extenderFor f xs) ∙ omega arith
 
-  extender-at : bytesAt 348 4 g ≡ extenderFor f xs
+  pub extender-at : extenderOf g ≡ extenderFor f xs
   unfolding freshFile
   extender-at =
       let n = length-fresh f xs long in
@@ -138,20 +138,9 @@ module _ (f : List ℕ) (xs : List (List ℕ)) (long : 348 ≤ length f) where
       bytesAt-part 348 4 g (omega arith)
       ∙ rw (drop-at head (extenderFor f xs ++ (joined xs ++ tailOf f)) 348 l) (take-at (extenderFor f xs) (joined xs ++ tailOf f) 4 (length-extender f xs))
 
-  some-is : hasExtensions g ≡ sameBytes (extenderFor f xs) someExtensions
+  some-is : hasExtensions g ≡ saysSome (extenderFor f xs)
   unfolding hasExtensions
-  some-is = ap (λ (b : List ℕ). sameBytes b someExtensions) extender-at
-
-  none-is : hasNone g ≡ sameBytes (extenderFor f xs) noExtensions
-  unfolding hasNone
-  none-is = ap (λ (b : List ℕ). sameBytes b noExtensions) extender-at
-
-  either-extender : (hasNone g || hasExtensions g) ≡ true
-  either-extender = rw (none-is, some-is) (by xs)
-    where
-      by : (ys : List (List ℕ)) → (sameBytes (extenderFor f ys) noExtensions || sameBytes (extenderFor f ys) someExtensions) ≡ true
-      by [] = refl
-      by (y ∷ ys) = refl
+  some-is = ap saysSome extender-at
 
   pub new-long : firstPlace ≤ length g
   new-long = let n = length-fresh f xs long in omega arith
@@ -209,7 +198,6 @@ module _ (f : List ℕ) (xs : List (List ℕ)) (long : 348 ≤ length f) where
           fields = rw shape-is (fields-new (endFor xs) (length f) (length g) (shapeOf f) e end-pair (r .fields));
           whole = short-by (kindOf g) (length g) (imageOf (shapeOf g)) (image-fits (r .whole));
           extended = extender-by (kindOf g) (length g) l;
-          extender = either-extender;
         }
 
     module _ (ws : AllComplete (orderOf f) xs) (few : length xs ≤ extensionLimit) where
@@ -227,10 +215,10 @@ module _ (f : List ℕ) (xs : List (List ℕ)) (long : 348 ≤ length f) where
         where
           by : (ys : List (List ℕ)) → xs ≡ ys → extensionsOf (layoutOf g) g ≡ listed ss
           by [] q =
-              let t : hasExtensions g ≡ false = some-is ∙ ap (λ (zs : List (List ℕ)). sameBytes (extenderFor f zs) someExtensions) q in
+              let t : hasExtensions g ≡ false = some-is ∙ ap (λ (zs : List (List ℕ)). saysSome (extenderFor f zs)) q in
               rw t (ap (λ (zs : List (List ℕ)). listed (spansFrom (orderOf f) firstPlace zs)) (sym q))
           by (y ∷ ys) q =
-              let t : hasExtensions g ≡ true = some-is ∙ ap (λ (zs : List (List ℕ)). sameBytes (extenderFor f zs) someExtensions) q in
+              let t : hasExtensions g ≡ true = some-is ∙ ap (λ (zs : List (List ℕ)). saysSome (extenderFor f zs)) q in
               let n : length xs ≡ suc (length ys) = ap length q in
               rw t (placed (omega arith))
 

@@ -1,11 +1,11 @@
 -- The splice: what the moves and stores of an edit leave is the settled buffer with the fresh file.
-use Prim.Native.Nat.{ℕ, _+_, _-_, _≤_, max}
+use Prim.Native.Nat.{ℕ, _+_, _-_, _≤_, _<_, max}
 use mathlib.Core.Path.{_≡_, refl, sym, ap, _∙_}
 use mathlib.Core.List.{List, _++_, append-assoc}
 use native.Mathlib.Omega.{arith}
 use lib.IntN.{ℤ}
 use lib.ListN.{length, take, drop, replicate, length-append, length-drop, take-append-drop}
-use lib.Seq.{length-take-le, take-take, take-add, take-append-le, drop-append-le, take-append-add, drop-append-add}
+use lib.Seq.{length-take-le, take-at, take-take, take-add, take-append-le, drop-append-le, take-append-add, drop-append-add}
 use mir.Syntax.{w32}
 use mir.Val.{SFits}
 use Rattle.field.specs.Numbers.{joined}
@@ -13,6 +13,7 @@ use Rattle.number.proofs.Lists.{drop-take}
 use Rattle.offset.specs.Offset.{offsetLimit}
 use Rattle.extension.specs.Walk.{firstPlace}
 use Rattle.layout.specs.File.{orderOf, kindOf}
+use Rattle.reader.proofs.File.{region-in, accepted-file}
 use Rattle.buffer.specs.Put.{put}
 use Rattle.buffer.specs.Settled.{settled}
 use Rattle.buffer.proofs.Laws.{length-put, put-left}
@@ -182,15 +183,32 @@ module _ (l : List ℕ) (len : ℕ) (change : Change) (code : ℤ) (p : List ℕ
       rw file-is
       (exchanged front xs ys (tailOf f) i j front-length (places change (length xs) (a .known .present) .0) (x .at) (x .old) (v .at-is) (v .old-is))
 
+  -- the moves leave the front as it was
+  front-kept : (g r : List ℕ) → g ≡ front ++ r → take firstPlace (settled l (max len firstPlace) g) ≡ take firstPlace l
+  unfolding settled
+  front-kept g r e =
+      let W = max len firstPlace in
+      let n = front-length in
+      let z : List ℕ = replicate (W - length g) 0 ++ drop (max W (length g)) l in
+      let lg : firstPlace ≤ length g = rw e (rw (length-append, front-length) (omega arith)) in
+      take-append-le firstPlace g z lg ∙ rw e (take-at front r firstPlace n) ∙ sym front-is
+
   module _ (fits : SFits w32 code) where
     abbrev zs : List (List ℕ)
     zs = editedList f change code p
 
-    extender-same : extenderBytes (x .end) ≡ extenderFor f zs
-    extender-same = rw (v .end-is) (extender-is f (edited-complete f (length l) change code p fits a))
+    -- the file ends at 348, or not before 352
+    file-long : 348 < len → firstPlace ≤ len
+    file-long h =
+        let n = file-length in
+        let r = region-in f (accepted-file f (a .accepted) .file .rules) (omega arith) in
+        omega (arith, r .0, r .1)
+
+    extender-same : (b : List ℕ) → take firstPlace b ≡ take firstPlace l → extenderBytes len (x .end) b ≡ extenderFor f zs
+    extender-same b e = rw (v .end-is) (extender-is l b len (edited-complete f (length l) change code p fits a) e file-long)
 
     fresh-is : headFor (x .kind) (x .order) (x .end)
-        (put (replaced (take (max len firstPlace) l) (x .at) (x .old) (joined ys)) 348 (extenderBytes (x .end)))
+        (put (replaced (take (max len firstPlace) l) (x .at) (x .old) (joined ys)) 348 (extenderFor f zs))
         ≡ freshOf f change code p
     unfolding freshFile
     fresh-is =
@@ -201,13 +219,13 @@ module _ (l : List ℕ) (len : ℕ) (change : Change) (code : ℤ) (p : List ℕ
         let s = buffer-long in
         let lx : length (take 4 (drop 348 l)) ≡ 4 = length-take-le 4 (drop 348 l) (rw length-drop (omega arith)) in
         let t = extended (take 348 f) (take 4 (drop 348 l)) e r lt lx (length-extender f zs) in
-        rw (list-is, extender-same, t, v .kind-is, v .order-is, v .end-is)
+        rw (list-is, t, v .kind-is, v .order-is, v .end-is)
         (headed (kindOf f) (orderOf f) (endFor zs) (take 348 f) (e ++ r) (omega arith))
 
     -- what the four steps leave
     pub spliced : (w : ℕ) (b₁ b₂ b₃ b₄ : List ℕ) → w ≡ max len firstPlace
         → b₁ ≡ put l (x .at + x .new) (take (w - (x .at + x .old)) (drop (x .at + x .old) l) ++ replicate (x .old - x .new) 0)
-        → b₂ ≡ put b₁ (x .at) (joined (broughtIn (x .order) change code p)) → b₃ ≡ put b₂ 348 (extenderBytes (x .end))
+        → b₂ ≡ put b₁ (x .at) (joined (broughtIn (x .order) change code p)) → b₃ ≡ put b₂ 348 (extenderBytes len (x .end) b₂)
         → b₄ ≡ headFor (x .kind) (x .order) (x .end) b₃ → b₄ ≡ settled l len (freshOf f change code p)
     spliced w b₁ b₂ b₃ b₄ ew e₁ e₂ e₃ e₄ =
         let s = sizes in
@@ -221,12 +239,13 @@ module _ (l : List ℕ) (len : ℕ) (change : Change) (code : ℤ) (p : List ℕ
         let h₂ : b₂ ≡ settled l W g =
         f₂ ∙ put-left l (x .at + x .new) moved (joined ys) b₁ (x .at) f₁ (omega arith) (omega arith)
         ∙ rw z (settle l W (x .at) (x .old) (joined ys) (s .out) (s .inside)) in
-        let le = length-extender f zs in
-        let e : List ℕ = extenderBytes (x .end) in
-        let lx : length e ≡ 4 = rw extender-same le in
+        let e : List ℕ = extenderFor f zs in
+        let lx = length-extender f zs in
         let lg : firstPlace ≤ length g = rw list-is (rw (length-append, front-length) (omega arith)) in
+        let kept : take firstPlace b₂ ≡ take firstPlace l = ap (take firstPlace) h₂ ∙ front-kept g (joined zs ++ tailOf f) list-is in
+        let f₃ : b₃ ≡ put b₂ 348 e = e₃ ∙ ap (put b₂ 348) (extender-same b₂ kept) in
         let lp : length (put g 348 e) ≡ length g = length-put g 348 e (omega arith) in
-        let h₃ : b₃ ≡ settled l W (put g 348 e) = e₃ ∙ rw (h₂, settled-put l W g 348 e (omega arith)) in
+        let h₃ : b₃ ≡ settled l W (put g 348 e) = f₃ ∙ rw (h₂, settled-put l W g 348 e (omega arith)) in
         e₄
         ∙ rw (h₃, headed-settled (x .kind) (x .order) (x .end) l W (put g 348 e) (omega arith), fresh-is)
         (settled-longer l len (freshOf f change code p) (s .long))

@@ -24,7 +24,7 @@ use Rattle.header.specs.Fields.{headerOf}
 use Rattle.rules.specs.declared.Image.{Image}
 use Rattle.rules.specs.declared.Shape.{Shape}
 use Rattle.rules.specs.Rules.{imageOf}
-use Rattle.layout.specs.File.{kindOf, shapeIn, shapeOf, endOf}
+use Rattle.layout.specs.File.{kindOf, shapeIn, shapeOf, extenderOf, endOf}
 use Rattle.reader.specs.declared.Reading.{Reading}
 use Rattle.reader.specs.Reading.{readingOf, IsAccepted}
 use Rattle.reader.proofs.File.{AcceptedFile, accepted-file, accepted-reads, accepted-image, accepted-shape}
@@ -32,7 +32,7 @@ use Rattle.buffer.specs.Settled.{settled}
 use Rattle.buffer.proofs.Settled.{take-settled}
 use Rattle.change.specs.declared.Change.{Change}
 use Rattle.change.specs.declared.Change.the-variants.{Remove}
-use Rattle.edit_plan.specs.Fresh.{extensionList, editedList, endFor, freshOf}
+use Rattle.edit_plan.specs.Fresh.{extensionList, editedList, extenderFor, endFor, freshOf}
 use Rattle.edit_plan.specs.Refusals.{tooMuch, changeRows, changeVerdict}
 use Rattle.edit_plan.specs.Planned.{bytesOut}
 use Rattle.edit_plan.proofs.Exchanging.{joined-some, joined-units}
@@ -45,7 +45,7 @@ use Rattle.edit.specs.Outcome.{Outcome, editVerdict, fresh, refused, out
 use Rattle.edit.specs.After.{readAfter}
 use Rattle.edit.proofs.Outcomes.{outcome-is}
 use Rattle.edit.proofs.Keeping.{same-bytes, same-kind, pair-head}
-use Rattle.edit.proofs.Rereading.{Ends, tail-single, new-long, list-new, reads-new, tail-new}
+use Rattle.edit.proofs.Rereading.{Ends, tail-single, extender-at, new-long, list-new, reads-new, tail-new}
 
 -- an edit that is done is not denied
 pub denied-never {ℓ} : {A : Type ℓ} {r : Refusal} {n : NewFile} → Denied r ≡ Done n → A
@@ -70,6 +70,8 @@ pub record Renewed (f g : List ℕ) (xs : List (List ℕ)) : Type 0 where
   -- "the same header fields, the extension list with that one edit, .. with the voxel offset worked out anew in a single file"
   pub reads : readingOf g ≡ readAfter (readingOf f) xs
   pub list : extensionList g ≡ xs
+  -- "An edit writes the first byte as 1 or 0 by the resulting list, and keeps the three" (02-change-requests.md, P2)
+  pub extender : extenderOf g ≡ extenderFor f xs
   pub single : readingOf f .header .kind ≡ Single → Moved f g
   -- in a pair the header's bytes stay as they are
   pub pair : readingOf f .header .kind ≡ Pair → take 348 g ≡ take 348 f
@@ -141,6 +143,7 @@ module _ (f : List ℕ) (room : ℕ) (change : Change) (code : ℤ) (p : List �
         accepted = new-accepted;
         reads = edit-reads;
         list = list-new f xs long ends (edited-complete f room change code p fits may) (may .count-limit) (file .rules);
+        extender = extender-at f xs long;
         single = λ k. moved (sym kind-old ∙ k);
         pair = λ k. pair-head f xs long (sym kind-old ∙ k);
       }

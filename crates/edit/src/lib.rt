@@ -53,7 +53,7 @@ fn splice(
     let whole = number::greater(len, FIRST);
     buffer::make_room(buf, whole, at, old, new);
     edit_store::put_new(buf, at, order, change, code, payload);
-    edit_store::put_extender(buf, end);
+    edit_store::put_extender(buf, len, end);
     edit_store::put_offset(buf, kind, order, end);
     whole - old + new
 }

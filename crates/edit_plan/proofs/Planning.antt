@@ -2,7 +2,7 @@
 use Prim.Native.Nat.{ℕ, _+_, _-_, _≤_, _<_, min, max}
 use mathlib.Core.Path.{_≡_, refl, sym, ap, _∙_}
 use mathlib.Core.Bool.{Bool, true, false, _||_}
-use mathlib.Core.List.{List, [], _∷_, append-nil}
+use mathlib.Core.List.{List, [], append-nil}
 use native.Mathlib.Nat.{sub-self}
 use native.Mathlib.Omega.{arith}
 use borrow.Author.Tests.{ltb-true, ltb-false, lt-ltb, le-ltb, leb-true, leb-false, not-false}
@@ -54,8 +54,7 @@ length-head Single order end h l =
 length-head Pair order end h l = refl
 
 pub length-extender : (f : List ℕ) (xs : List (List ℕ)) → length (extenderFor f xs) ≡ 4
-length-extender f [] = refl
-length-extender f (x ∷ xs) = refl
+length-extender f xs = refl
 
 pub length-top : (kind : Kind) (order : Order) (end : ℕ) (f : List ℕ) → 348 ≤ length f
     → length (headFor kind order end (take 348 f)) ≡ 348

@@ -15,7 +15,7 @@ use Rattle.extension.specs.Pieces.{pieces}
 use Rattle.header.specs.declared.Kind.{Kind}
 use Rattle.header.specs.declared.Kind.the-variants.{Single, Pair}
 use Rattle.rules.specs.Rules.{imageOf}
-use Rattle.layout.specs.File.{orderOf, kindOf, shapeOf, noExtensions, someExtensions, endOf}
+use Rattle.layout.specs.File.{orderOf, kindOf, shapeOf, reservedOf, endOf}
 use Rattle.reader.specs.Reading.{judgement}
 use Rattle.buffer.specs.Put.{put}
 use Rattle.change.specs.declared.Change.{Change}
@@ -73,10 +73,15 @@ editedList f change code p =
     exchange (extensionList f) (outFrom change (length (extensionList f))) (outTo change (length (extensionList f)))
     (broughtIn (orderOf f) change code p)
 
--- "A list left empty gives a zero extender ..; otherwise the extender is 1,0,0,0."
+-- "An edit writes the first byte as 1 or 0 by the resulting list" (02-change-requests.md, P2)
+abbrev pub firstByteFor : List (List ℕ) → ℕ
+firstByteFor [] = 0
+firstByteFor (x ∷ xs) = 1
+
+-- "and keeps the three; the fresh file of demand 3 carries them too". "A pair's 348-byte file gains three zeros": past the end of f there
+-- are zeros.
 abbrev pub extenderFor : List ℕ → List (List ℕ) → List ℕ
-extenderFor f [] = noExtensions
-extenderFor f (x ∷ xs) = someExtensions
+extenderFor f xs = firstByteFor xs ∷ reservedOf f
 
 -- where the region of a list ends: "352 plus the new list's bytes"
 abbrev pub endFor : List (List ℕ) → ℕ

@@ -19,8 +19,8 @@ use Rattle.edit_plan.specs.Fresh.{extensionList, editedList, endFor, fre
 
 -- Rules 18 and 19 ask no file: `missingIn` and `offersNegative` (change/Change).
 
--- rule 20: "append where the extender is zero and bytes already follow 352 before the end of the extension region"; past rule 12 an
--- extender that is not 1,0,0,0 is zero
+-- rule 20: "append where the extender is zero and bytes already follow 352 before the end of the extension region"; "the zero extender
+-- of 20 is now one whose first byte is zero" (02-change-requests.md, P2)
 abbrev pub entersPrivate : Change → List ℕ → Bool
 entersPrivate Append f = not (hasExtensions f) && ltb firstPlace (endOf f)
 entersPrivate (Replace k) f = false

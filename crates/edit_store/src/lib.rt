@@ -2,14 +2,14 @@
 // single file's voxel offset (01-scope.md, "Extensions"). What is stored where is planned before (edit_plan).
 ghost use mathlib.Core.Path.{_≡_};
 ghost use Prim.Native.Nat.{_+_, _≤_};
-ghost use lib.ListN.{length};
+ghost use lib.ListN.{length, set};
 ghost use Rattle.field.specs.Numbers.{joined};
 ghost use Rattle.offset.specs.Offset.{offsetLimit};
 ghost use Rattle.extension.specs.Walk.{firstPlace};
 ghost use Rattle.buffer.specs.Put.{put};
 ghost use Rattle.change.specs.Change.{sizeFor};
 ghost use Rattle.edit_plan.specs.Fresh.{stored, broughtIn, headFor};
-ghost use Rattle.edit_store.specs.Stores.{extenderBytes};
+ghost use Rattle.edit_store.specs.Stores.{firstByteAt, extenderBytes};
 use change::Change;
 use extension::FIRST;
 use field::Order;
@@ -43,16 +43,23 @@ pub fn put_new(buf: &mut [u8], at: usize, order: Order, change: Change, code: i3
     }
 }
 
-// The extender of a region that ends at `end`.
-pub fn put_extender(buf: &mut [u8], end: usize)
-    requires { ⌜ firstPlace ≤ length (now buf) ⌝ }
-    ensures { λ _. ⌜ now (buf .exit) ≡ put (now (buf .entry)) 348 (extenderBytes end) ⌝ }
+// The extender's first byte: whether the list, whose region is to end at `end`, has an extension.
+fn put_first(buf: &mut [u8], end: usize)
+    ensures { λ _. ⌜ now (buf .exit) ≡ set (now (buf .entry)) 348 (firstByteAt end) ⌝ }
 {
-    if FIRST < end {
-        store::put_u32(buf, 348, Order::Little, 1);
-    } else {
-        store::put_u32(buf, 348, Order::Little, 0);
+    store::put_byte(buf, 348, (FIRST < end) as u8);
+}
+
+// The extender of a file of len bytes, whose region is to end at `end`. Its three reserved bytes stay; a header file of
+// 348 bytes has none yet, and gains zeros.
+pub fn put_extender(buf: &mut [u8], len: usize, end: usize)
+    requires { ⌜ firstPlace ≤ length (now buf) ⌝ }
+    ensures { λ _. ⌜ now (buf .exit) ≡ put (now (buf .entry)) 348 (extenderBytes len end (now (buf .entry))) ⌝ }
+{
+    if len < FIRST {
+        buffer::clear(buf, 349, 3);
     }
+    put_first(buf, end);
 }
 
 // vox_offset, which only a single file's edit sets.

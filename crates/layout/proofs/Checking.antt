@@ -51,12 +51,12 @@ module _ (s : List ℕ) (len : ℕ) where
   abbrev parts : Verdict
   parts =
       then (verdict (headRows s len))
-      (then (verdict (fieldRows (shapeOf s) len)) (verdict (endRows (kindOf s) (imageOf (shapeOf s)) s len)))
+      (then (verdict (fieldRows (shapeOf s) len)) (verdict (endRows (kindOf s) (imageOf (shapeOf s)) len)))
 
   in-parts : verdict (rowsIn s len) ≡ parts
   in-parts =
-      verdict-append (headRows s len) (fieldRows (shapeOf s) len ++ endRows (kindOf s) (imageOf (shapeOf s)) s len)
-      ∙ ap (then (verdict (headRows s len))) (verdict-append (fieldRows (shapeOf s) len) (endRows (kindOf s) (imageOf (shapeOf s)) s len))
+      verdict-append (headRows s len) (fieldRows (shapeOf s) len ++ endRows (kindOf s) (imageOf (shapeOf s)) len)
+      ∙ ap (then (verdict (headRows s len))) (verdict-append (fieldRows (shapeOf s) len) (endRows (kindOf s) (imageOf (shapeOf s)) len))
 
   by-parts : (v : Verdict) → parts ≡ v → decided v (Fits (layoutOf s)) Breaks ≡ checkedIn s len
   unfolding checkedIn
@@ -82,13 +82,13 @@ module _ (s : List ℕ) (len : ℕ) where
       fields : (verdict (fieldRows (shapeOf s) len) ≡ Accepted) × (imageOf (shapeOf s) ≡ image)
       fields = judged-passed-is (shapeOf s) len image (rw same-shape at e)
 
-      with-end : (v : Verdict) → verdict (endRows kind image s len) ≡ v → parts ≡ v
-      with-end v d = rw (b .passed, fields .0) ((λ i. verdict (endRows (b .kind-is i) (fields .1 i) s len)) ∙ d)
+      with-end : (v : Verdict) → verdict (endRows kind image len) ≡ v → parts ≡ v
+      with-end v d = rw (b .passed, fields .0) ((λ i. verdict (endRows (b .kind-is i) (fields .1 i) len)) ∙ d)
 
-      pub checks-end : (r : Refusal) → verdict (endRows kind image s len) ≡ Refused r → Breaks r ≡ checkedIn s len
+      pub checks-end : (r : Refusal) → verdict (endRows kind image len) ≡ Refused r → Breaks r ≡ checkedIn s len
       checks-end r d = by-parts (Refused r) (with-end (Refused r) d)
 
-      pub checks-all : verdict (endRows kind image s len) ≡ Accepted → Fits (record { order = order; kind = kind; image = image }) ≡ checkedIn s len
+      pub checks-all : verdict (endRows kind image len) ≡ Accepted → Fits (record { order = order; kind = kind; image = image }) ≡ checkedIn s len
       checks-all d =
           (λ i. Fits (record { order = sym (b .order-is) i; kind = sym (b .kind-is) i; image = sym (fields .1) i }))
           ∙ by-parts Accepted (with-end Accepted d)

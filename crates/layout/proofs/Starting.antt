@@ -1,11 +1,11 @@
 -- What rules 1 to 4 decide, rule by rule: each law names the rules that have passed and the one that refuses.
-use Prim.Native.Nat.{ℕ, zero, suc, _+_, _*_, _<_, _≤_}
+use Prim.Native.Nat.{ℕ, _+_, _*_, _<_, _≤_}
 use mathlib.Core.Path.{_≡_, refl, sym}
 use mathlib.Core.Bool.{Bool, true, false, cond, _&&_, _||_}
 use mathlib.Core.List.{List}
 use native.Mathlib.Omega.{arith}
-use borrow.Author.Tests.{lt-ltb, le-ltb, lt-leb, eq-eqb, ne-eqb, eqb-true, eqb-false}
-use lib.Dec.{leb, eqb}
+use borrow.Author.Tests.{lt-ltb, le-ltb, eq-eqb, ne-eqb, eqb-true, eqb-false}
+use lib.Dec.{eqb}
 use lib.ListN.{length, getD}
 use Rattle.field.specs.declared.Order.the-variants.{Little, Big}
 use Rattle.field.specs.Numbers.{bytesAt, littleValue, u32At, i32At}
@@ -37,12 +37,6 @@ pub same-word : (s : List ℕ) → ((i : ℕ) → getD s i 0 < 256) → (at : �
     → eqb (u32At Little s at) (littleValue m) ≡ sameBytes (bytesAt at 4 s) m
 unfolding u32At
 same-word s byte at b e = same-number (one (byte (at + 0)) (one (byte (at + 1)) (one (byte (at + 2)) (one (byte (at + 3)) none)))) b (sym e)
-
--- the numbers 0 and 1
-pub zero-or-one : (n : ℕ) → (eqb n 0 || eqb n 1) ≡ leb n 1
-zero-or-one zero = refl
-zero-or-one (suc zero) = refl
-zero-or-one (suc (suc n)) = rw (ne-eqb (suc (suc n)) 0 (omega arith), ne-eqb (suc (suc n)) 1 (omega arith), lt-leb (suc (suc n)) 1 (omega arith))
 
 -- of two tests either holds exactly when the one that is chosen by the first does
 chosen : {A : Type 0} (f : A → Bool) (a b : A) → (f a || f b) ≡ f (cond (f a) a b)

@@ -1,10 +1,10 @@
--- What is judged of a file's first 352 bytes and its length: the refusal table, rules 1 to 12, in its order (01-scope.md, "Refusal
--- numbers", "The header rules", "Extensions").
+-- What is judged of a file's header and its length: the refusal table, rules 1 to 12, in its order (01-scope.md, "Refusal numbers", "The
+-- header rules", "Extensions"); and what its extender says (02-change-requests.md, P2).
 use Prim.Native.Nat.{ℕ}
 use mathlib.Core.Bool.{Bool, true, false, not, cond, _&&_, _||_}
 use mathlib.Core.List.{List, [], _∷_, _++_}
 use lib.Dec.{ltb, eqb}
-use lib.ListN.{length}
+use lib.ListN.{length, getD}
 use Rattle.field.specs.declared.Order.{Order}
 use Rattle.field.specs.declared.Order.the-variants.{Little, Big}
 use Rattle.field.specs.Numbers.{bytesAt, u32At, i16At, i32At, i16sAt}
@@ -44,7 +44,7 @@ hasMagic kind s = sameBytes (bytesAt 344 4 s) (magicOf kind)
 unfoldable pub kindOf : List ℕ → Kind
 kindOf s = cond (hasMagic Single s) Single Pair
 
--- rules 1 to 4. Here and below `len` is the file's length, and of its bytes s the first 352 are enough.
+-- rules 1 to 4. Here and below `len` is the file's length, and of its bytes s the first 348 are enough.
 abbrev pub headRows : List ℕ → ℕ → List Row
 headRows s len =
     row 1 (ltb len 348) 0
@@ -75,33 +75,37 @@ shapeOf s = shapeIn (orderOf s) (kindOf s) s
 abbrev pub extenderOf : List ℕ → List ℕ
 extenderOf s = bytesAt 348 4 s
 
-abbrev pub noExtensions : List ℕ
-noExtensions = 0 ∷ 0 ∷ 0 ∷ 0 ∷ []
-
-abbrev pub someExtensions : List ℕ
-someExtensions = 1 ∷ 0 ∷ 0 ∷ 0 ∷ []
+-- "first byte zero means none, anything else means extensions"
+abbrev pub saysSome : List ℕ → Bool
+saysSome extender = not (eqb (getD extender 0 0) 0)
 
 unfoldable pub hasExtensions : List ℕ → Bool
-hasExtensions s = sameBytes (extenderOf s) someExtensions
+hasExtensions s = saysSome (extenderOf s)
 
-unfoldable pub hasNone : List ℕ → Bool
-hasNone s = sameBytes (extenderOf s) noExtensions
+-- "the others are reserved": the extender's last three bytes
+abbrev pub reservedOf : List ℕ → List ℕ
+reservedOf s = bytesAt 349 3 s
 
--- rule 12: a pair of length 349..351
+-- The base's tests, before P2: 0,0,0,0 is none and 1,0,0,0 is some, and its rule 12 refused any other extender. The law `base-reads`
+-- (base_extender/Theorems) says what became of the files that pass them.
+abbrev pub baseNone : List ℕ → Bool
+baseNone s = sameBytes (extenderOf s) (0 ∷ 0 ∷ 0 ∷ 0 ∷ [])
+
+abbrev pub baseSome : List ℕ → Bool
+baseSome s = sameBytes (extenderOf s) (1 ∷ 0 ∷ 0 ∷ 0 ∷ [])
+
+-- rule 12: "12 remains only for lengths 349..351", of a pair
 abbrev pub cutExtender : Kind → ℕ → Bool
 cutExtender Single len = false
 cutExtender Pair len = ltb 348 len && ltb len 352
 
 -- rules 11 and 12
-abbrev pub endRows : Kind → Image → List ℕ → ℕ → List Row
-endRows kind image s len =
-    row 11 (cutShort kind len image) 108
-    ∷ row 12 (cutExtender kind len || not (hasNone s || hasExtensions s)) 348
-    ∷ []
+abbrev pub endRows : Kind → Image → ℕ → List Row
+endRows kind image len = row 11 (cutShort kind len image) 108 ∷ row 12 (cutExtender kind len) 348 ∷ []
 
 -- rules 1 to 12
 abbrev pub rowsIn : List ℕ → ℕ → List Row
-rowsIn s len = headRows s len ++ (fieldRows (shapeOf s) len ++ endRows (kindOf s) (imageOf (shapeOf s)) s len)
+rowsIn s len = headRows s len ++ (fieldRows (shapeOf s) len ++ endRows (kindOf s) (imageOf (shapeOf s)) len)
 
 abbrev pub fileRows : List ℕ → List Row
 fileRows s = rowsIn s (length s)

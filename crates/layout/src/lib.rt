@@ -1,7 +1,8 @@
 // The layout of a file, by rules 1 to 12: its byte order, its kind and where its image is (01-scope.md, "Refusal
-// numbers", "The header rules"). Of a file's bytes the first 352 are enough, with its length beside them.
+// numbers", "The header rules"). Of a file's bytes the header is enough, with its length beside them. Also what its extender
+// says (02-change-requests.md, P2).
 ghost use mathlib.Core.Path.{_≡_};
-ghost use mathlib.Core.Bool.{true, _||_};
+ghost use mathlib.Core.Bool.{true};
 ghost use mathlib.Core.List.{[], _∷_};
 ghost use Prim.Native.Nat.{ℕ, _<_, _≤_, min};
 ghost use lib.ListN.{length};
@@ -9,7 +10,7 @@ ghost use Rattle.field.specs.declared.Order.the-variants.{Little};
 ghost use Rattle.field.specs.Numbers.{bytesAt, littleValue, u32At};
 ghost use Rattle.refusal.specs.Table.{verdict};
 ghost use Rattle.layout.specs.File.{sameBytes, holdsIn, orderOf, hasMagic, kindOf, startIn, shapeIn, cutExtender};
-ghost use Rattle.layout.specs.File.{hasNone, hasExtensions, endRows, checkedIn, checkedOf};
+ghost use Rattle.layout.specs.File.{hasExtensions, endRows, checkedIn, checkedOf};
 use field::Order;
 use header::Kind;
 use refusal::Refusal;
@@ -147,7 +148,7 @@ fn shape_in(file: &[u8], order: Order, kind: Kind) -> Shape
     }
 }
 
-// Rule 12, of a header file's length.
+// Rule 12: a pair's header file that ends inside its extender.
 fn cut_extender(kind: Kind, len: usize) -> bool
     ensures { λ r. ⌜ r ≡ cutExtender kind len ⌝ }
 {
@@ -157,22 +158,16 @@ fn cut_extender(kind: Kind, len: usize) -> bool
     }
 }
 
-// Rule 12, of the extender: whether it is 0,0,0,0 or 1,0,0,0.
-fn is_extender(file: &[u8]) -> bool
-    ensures { λ r. ⌜ r ≡ (hasNone (now (file .entry)) || hasExtensions (now (file .entry))) ⌝ }
-{
-    word_at(file, 348) <= 1
-}
-
+// Whether the extender says that there are extensions: of its four bytes only the first has a meaning.
 pub fn has_extensions(file: &[u8]) -> bool
     ensures { λ r. ⌜ r ≡ hasExtensions (now (file .entry)) ⌝ }
 {
-    is_four(file, 348, 1, 0, 0, 0)
+    field::byte_at(file, 348) != 0
 }
 
 // Rules 11 and 12.
-fn check_end(file: &[u8], len: usize, kind: Kind, image: Image) -> Verdict
-    ensures { λ r. ⌜ r ≡ verdict (endRows kind image (now (file .entry)) len) ⌝ }
+fn check_end(len: usize, kind: Kind, image: Image) -> Verdict
+    ensures { λ r. ⌜ r ≡ verdict (endRows kind image len) ⌝ }
 {
     if bounds::cut_short(kind, len, image) {
         return Verdict::Refused(Refusal {
@@ -180,8 +175,7 @@ fn check_end(file: &[u8], len: usize, kind: Kind, image: Image) -> Verdict
             place: 108,
         });
     }
-    let extender = is_extender(file);
-    if cut_extender(kind, len) | !extender {
+    if cut_extender(kind, len) {
         return Verdict::Refused(Refusal {
             number: 12,
             place: 348,
@@ -199,7 +193,7 @@ fn check_fields(file: &[u8], len: usize, order: Order, kind: Kind) -> Checked
     match judged {
         Judged::Failed(r) => Checked::Breaks(r),
         Judged::Passed(image) => {
-            let end = check_end(file, len, kind, image);
+            let end = check_end(len, kind, image);
             match end {
                 Verdict::Refused(r) => Checked::Breaks(r),
                 Verdict::Accepted => Checked::Fits(Layout { order, kind, image }),

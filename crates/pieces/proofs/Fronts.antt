@@ -16,7 +16,7 @@ use Rattle.buffer.proofs.Laws.{put-nil, length-put, getD-put-before, getD-put-i
 use Rattle.extension.specs.declared.Span.{Span}
 use Rattle.header.specs.declared.Kind.{Kind}
 use Rattle.header.specs.Fields.{headerOf}
-use Rattle.layout.specs.File.{holdsIn, orderOf, hasMagic, kindOf, shapeIn, hasNone, hasExtensions, checkedIn}
+use Rattle.layout.specs.File.{holdsIn, orderOf, hasMagic, kindOf, shapeIn, hasExtensions, checkedIn}
 use Rattle.pieces.specs.Pieces.{frontLength, frontWith, endIn}
 use Rattle.pieces.specs.Kept.{frontOf}
 
@@ -34,7 +34,7 @@ module _ (s : List ℕ) where
   end-front order = refl
 
   pub checked-front : (len : ℕ) → checkedIn (frontOf s) len ≡ checkedIn s len
-  unfolding frontOf checkedIn holdsIn orderOf hasMagic kindOf shapeIn hasNone hasExtensions u16At u32At
+  unfolding frontOf checkedIn holdsIn orderOf hasMagic kindOf shapeIn u16At u32At
   checked-front len = refl
 
   pub header-front : (order : Order) (kind : Kind) (count : ℕ) (spans : List Span)

@@ -37,7 +37,7 @@ use Rattle.rules.specs.declared.Image.{Image}
 use Rattle.rules.specs.Rules.{oneToSeven, offsetOutside, imageOf, cutShort, regionEnd}
 use Rattle.rules.specs.Rules.{fieldRows, shapeRows, shapeOfRecord, recordRows}
 use Rattle.rules.proofs.Passed.{neither, Fields, clear-fields, fields-clear}
-use Rattle.layout.specs.File.{holdsIn, orderOf, sameBytes, hasMagic, kindOf, shapeIn, shapeOf, cutExtender, hasNone, hasExtensions, extenderOf, someExtensions}
+use Rattle.layout.specs.File.{holdsIn, orderOf, sameBytes, hasMagic, kindOf, shapeIn, shapeOf, cutExtender, hasExtensions}
 use Rattle.layout.specs.File.{headRows, endRows, fileRows, layoutOf, endOf}
 use Rattle.layout.proofs.Starting.{either, either-kind}
 use Rattle.reader.specs.declared.Reading.{Reading}
@@ -72,12 +72,10 @@ pub record Rules (s : List ℕ) : Type 0 where
   pub fields : Fields (shapeOf s) (length s)  -- 5 to 10
   pub whole : cutShort (kindOf s) (length s) (imageOf (shapeOf s)) ≡ false  -- 11
   pub extended : cutExtender (kindOf s) (length s) ≡ false  -- 12
-  pub extender : (hasNone s || hasExtensions s) ≡ true
 
 module _ (s : List ℕ) where
-  rules-by : Clear (headRows s (length s)) → Fields (shapeOf s) (length s) → Clear (endRows (kindOf s) (imageOf (shapeOf s)) s (length s)) → Rules s
+  rules-by : Clear (headRows s (length s)) → Fields (shapeOf s) (length s) → Clear (endRows (kindOf s) (imageOf (shapeOf s)) (length s)) → Rules s
   rules-by (one r1 (one r2 (one r3 (one r4 none)))) fields (one r11 (one r12 none)) =
-      let t = neither (cutExtender (kindOf s) (length s)) (not (hasNone s || hasExtensions s)) r12 in
       record {
         long = ltb-false (length s) 348 r1;
         ordered = sym (either s) ∙ not-false _ r2;
@@ -85,8 +83,7 @@ module _ (s : List ℕ) where
         magic = sym (either-kind s) ∙ not-false _ r4;
         fields = fields;
         whole = r11;
-        extended = t .0;
-        extender = not-false (hasNone s || hasExtensions s) (t .1);
+        extended = r12;
       }
 
   pub clear-rules : Clear (fileRows s) → Rules s
@@ -101,9 +98,8 @@ module _ (s : List ℕ) where
       let e2 : not (holdsIn Little s || holdsIn Big s) ≡ false = rw (either s, r .ordered) in
       let e3 : not (isNumber (i32At (orderOf s) s 0) 348) ≡ false = rw (r .size) in
       let e4 : not (hasMagic Single s || hasMagic Pair s) ≡ false = rw (either-kind s, r .magic) in
-      let e12 : (cutExtender (kindOf s) (length s) || not (hasNone s || hasExtensions s)) ≡ false = rw (r .extended, r .extender) in
       clear-append (one e1 (one e2 (one e3 (one e4 none))))
-      (clear-append (fields-clear (shapeOf s) (length s) (r .fields)) (one (r .whole) (one e12 none)))
+      (clear-append (fields-clear (shapeOf s) (length s) (r .fields)) (one (r .whole) (one (r .extended) none)))
 
 -- rules 9 and 11: where the region of the extensions ends
 record Bounds (kind : Kind) (image : Image) (len : ℕ) : Type 0 where
@@ -123,7 +119,7 @@ bounds Pair image len long nine eleven =
     let n = neither (ltb offsetLimit (image .offset)) (ltb offsetLimit len) nine in
     record { behind = long; inside = omega arith; small = ltb-false offsetLimit len (n .1); begins = λ e. single-never (sym e) }
 
--- a file whose extender says that there are extensions has an extender,
+-- a file whose extender says that there are extensions is longer than its header
 extended-long : (s : List ℕ) → hasExtensions s ≡ true → 348 < length s
 unfolding hasExtensions
 extended-long s e = by (ltb 348 (length s)) refl
@@ -131,21 +127,25 @@ extended-long s e = by (ltb 348 (length s)) refl
     by : (t : Bool) → ltb 348 (length s) ≡ t → 348 < length s
     by true h = ltb-true 348 (length s) h
     by false h =
-        let first : getD s 348 0 ≡ 1 = ap (λ (l : List ℕ). getD l 0 0) (same-is (extenderOf s) someExtensions e) in
-        let none : getD s 348 0 ≡ 0 = List·getD-eq-default s 0 (ltb-false 348 (length s) h) in
-        absurd (omega arith)
+        let zero : getD s 348 0 ≡ 0 = List·getD-eq-default s 0 (ltb-false 348 (length s) h) in
+        absurd (true≢false (sym e ∙ rw zero))
 
+-- an accepted file that is longer than its header
 begins-by : (kind : Kind) (image : Image) (len : ℕ) → Bounds kind image len → 348 < len → cutExtender kind len ≡ false
     → firstPlace ≤ regionEnd kind image len
 begins-by Single image len b long e = b .begins refl
 begins-by Pair image len b long e = ltb-false len 352 (rw (lt-ltb 348 len long) at e)
 
--- and their region lies in the file
-pub extended-region : (s : List ℕ) → Rules s → hasExtensions s ≡ true → (firstPlace ≤ endOf s) × (endOf s ≤ length s)
+-- has all four bytes of it, and the region lies in the file;
+pub region-in : (s : List ℕ) → Rules s → 348 < length s → (firstPlace ≤ endOf s) × (endOf s ≤ length s)
 unfolding endOf shapeIn
-extended-region s r e =
+region-in s r long =
     let b = bounds (kindOf s) (imageOf (shapeOf s)) (length s) (r .long) (r .fields .inside) (r .whole) in
-    (begins-by (kindOf s) (imageOf (shapeOf s)) (length s) b (extended-long s e) (r .extended), b .inside)
+    (begins-by (kindOf s) (imageOf (shapeOf s)) (length s) b long (r .extended), b .inside)
+
+-- so has a file whose extender says that there are extensions
+pub extended-region : (s : List ℕ) → Rules s → hasExtensions s ≡ true → (firstPlace ≤ endOf s) × (endOf s ≤ length s)
+extended-region s r e = region-in s r (extended-long s e)
 
 -- ---- What an accepted file is like
 

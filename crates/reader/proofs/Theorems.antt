@@ -2,19 +2,19 @@
 -- accepted file is like stand in proofs/File.antt.
 use Prim.Native.Nat.{ℕ, _+_, _*_, _≤_}
 use mathlib.Core.Path.{_≡_, refl, ap, sym, _∙_}
-use mathlib.Core.Bool.{Bool, true, false, cond, _&&_, and-false, and-eq-true-iff}
-use mathlib.Core.List.{List, []}
+use mathlib.Core.Bool.{Bool, true, false, not, cond, _&&_, and-false, and-eq-true-iff, false≢true}
+use mathlib.Core.List.{List, [], _∷_, _++_}
 use mathlib.Core.Logic.{_↔_}
 use native.Mathlib.Omega.{arith}
-use borrow.Author.Tests.{leb-true, lt-leb}
-use lib.Dec.{leb}
+use borrow.Author.Tests.{leb-true, lt-leb, ne-eqb}
+use lib.Dec.{leb, eqb}
 use lib.ListN.{length, getD}
 use Rattle.field.specs.declared.Order.the-variants.{Little, Big}
 use Rattle.field.specs.Numbers.{u16At, joined}
 use Rattle.refusal.specs.declared.Refusal.{Refusal}
 use Rattle.refusal.specs.declared.Verdict.{Verdict}
 use Rattle.refusal.specs.declared.Verdict.the-variants.{Accepted, Refused}
-use Rattle.refusal.specs.Table.{verdict, decided}
+use Rattle.refusal.specs.Table.{row, verdict, decided}
 use Rattle.refusal.proofs.Rows.{Clear, between, between-wider, verdict-number, refused-never}
 use Rattle.extension.specs.Walk.{extensionLimit, firstPlace, Walked, listed, stopped, extensionsIn}
 use Rattle.extension.specs.Pieces.{pieces, AllComplete, spansFrom}
@@ -22,9 +22,9 @@ use Rattle.extension.specs.Fills.{Fills}
 use Rattle.extension.proofs.Numbers.{extensions-number}
 use Rattle.extension.proofs.Pieces.{walk-join, length-spansFrom}
 use Rattle.extension.proofs.Walks.{stopped-never}
-use Rattle.rules.specs.Rules.{imageOf, regionEnd}
+use Rattle.rules.specs.Rules.{fieldRows, imageOf, cutShort, regionEnd}
 use Rattle.rules.proofs.Seven.{seven-bits}
-use Rattle.layout.specs.File.{holdsIn, orderOf, kindOf, shapeOf, hasExtensions, fileRows, layoutOf, endOf}
+use Rattle.layout.specs.File.{holdsIn, orderOf, kindOf, shapeOf, headRows, hasExtensions, cutExtender, fileRows, layoutOf, endOf}
 use Rattle.reader.specs.Reading.{extensionsOf, judgement, readingBy, readingOf, IsAccepted}
 use Rattle.reader.proofs.File.{regionOf, Lists, accepted-exactly, accepted-file, accepted-list}
 
@@ -41,7 +41,7 @@ pub never-both : (s : List ℕ) → holdsIn Little s ≡ true → holdsIn Big s 
 unfolding holdsIn u16At
 never-both s e = sym (seven-bits (u16At Big s 40)) ∙ small-pair (getD s 40 0) (getD s 41 0) (seven-bits (u16At Little s 40) ∙ e)
 
--- "With 1,0,0,0 they begin at 352 and must fill the region exactly"
+-- "With 1,0,0,0 they begin at 352 and must fill the region exactly"; since P2 with any first byte but zero
 pub accepted-fills : (s : List ℕ) (a : IsAccepted s) → hasExtensions s ≡ true → Fills firstPlace (endOf s) (accepted-list s a)
 accepted-fills s a h = let f = accepted-file s a .file in f .fills (f .some h)
 
@@ -99,20 +99,45 @@ module _ (s : List ℕ) where
   list-number true r e = extensions-number (orderOf s) (regionEnd (kindOf s) (imageOf (shapeOf s)) (length s)) s r e
   list-number false r e = stopped-never (sym e)
 
-  judged-number : (v : Verdict) (r : Refusal) → verdict (fileRows s) ≡ v → decided v (extensionsOf (layoutOf s) s) stopped ≡ stopped r
-      → between 1 15 (r .number) ≡ true
-  judged-number Accepted r h e = between-wider 13 15 1 15 (r .number) refl (list-number (hasExtensions s) r e)
-  judged-number (Refused q) r h e =
-      let p : q ≡ r = cc in
-      rw (← p) (between-wider 1 12 1 15 (q .number) refl (verdict-number (between 1 12) (fileRows s) q refl h))
+  -- a kind of number that the walk's refusals have and those of rules 1 to 12
+  module _ (p : ℕ → Bool) (walk : (n : ℕ) → between 13 15 n ≡ true → p n ≡ true)
+      (rows : (q : Refusal) → verdict (fileRows s) ≡ Refused q → p (q .number) ≡ true) where
+    judged-number : (v : Verdict) (r : Refusal) → verdict (fileRows s) ≡ v → decided v (extensionsOf (layoutOf s) s) stopped ≡ stopped r
+        → p (r .number) ≡ true
+    judged-number Accepted r h e = walk (r .number) (list-number (hasExtensions s) r e)
+    judged-number (Refused q) r h e = let z : q ≡ r = cc in rw (← z) (rows q h)
+
+    number-by : (r : Refusal) → readingOf s .verdict ≡ Refused r → p (r .number) ≡ true
+    unfolding readingOf judgement
+    number-by r e = by (judgement s) refl e
+      where
+        by : (w : Walked) → judgement s ≡ w → readingBy s w .verdict ≡ Refused r → p (r .number) ≡ true
+        by (listed xs) h d = refused-never (sym d)
+        by (stopped q) h d = let z : q ≡ r = cc in rw (← z) (judged-number (verdict (fileRows s)) q refl h)
 
   pub reading-number : (r : Refusal) → readingOf s .verdict ≡ Refused r → between 1 15 (r .number) ≡ true
-  unfolding readingOf judgement
-  reading-number r e = by (judgement s) refl e
+  reading-number r e =
+      number-by (between 1 15) (λ n. between-wider 13 15 1 15 n refl)
+      (λ q h. between-wider 1 12 1 15 (q .number) refl (verdict-number (between 1 12) (fileRows s) q refl h)) r e
+
+  -- "12 remains only for lengths 349..351" (02-change-requests.md, P2): of a pair, so a single file never gets it
+  other-rows : cutExtender (kindOf s) (length s) ≡ false → (q : Refusal) → verdict (fileRows s) ≡ Refused q
+      → not (eqb (q .number) 12) ≡ true
+  unfolding verdict
+  other-rows c q e =
+      let eleven = row 11 (cutShort (kindOf s) (length s) (imageOf (shapeOf s))) 108 in
+      let others = headRows s (length s) ++ (fieldRows (shapeOf s) (length s) ++ (eleven ∷ [])) in
+      verdict-number (λ n. not (eqb n 12)) others q refl (rw c at e)
+
+  pub reading-twelve : (r : Refusal) → readingOf s .verdict ≡ Refused r → r .number ≡ 12 → cutExtender (kindOf s) (length s) ≡ true
+  reading-twelve r e n = by (cutExtender (kindOf s) (length s)) refl
     where
-      by : (w : Walked) → judgement s ≡ w → readingBy s w .verdict ≡ Refused r → between 1 15 (r .number) ≡ true
-      by (listed xs) h d = refused-never (sym d)
-      by (stopped q) h d = let p : q ≡ r = cc in rw (← p) (judged-number (verdict (fileRows s)) q refl h)
+      walk : (m : ℕ) → between 13 15 m ≡ true → not (eqb m 12) ≡ true
+      walk m h = let k = leb-true 13 m (and-eq-true-iff (leb 13 m) (leb m 15) .0 h .0) in rw (ne-eqb m 12 (λ z. absurd (omega arith)))
+
+      by : (t : Bool) → cutExtender (kindOf s) (length s) ≡ t → cutExtender (kindOf s) (length s) ≡ true
+      by true c = c
+      by false c = let z = number-by (λ m. not (eqb m 12)) walk (other-rows c) r e in absurd (false≢true (rw n at z))
 
 -- What a call answers of a file, "1..15 first": its refusals have these numbers, and those that it gives by itself.
 module _ {ℓ} {A : Type ℓ} {a : A} {f : Refusal → A} (p : ℕ → Bool) (s : List ℕ) (r : Refusal) where

@@ -19,7 +19,8 @@ use Rattle.layout.specs.declared.Layout.{Layout}
 use Rattle.layout.specs.File.{hasExtensions, fileRows, layoutOf}
 use Rattle.reader.specs.declared.Reading.{Reading}
 
--- "With a zero extender there are no extensions, and bytes from 352 are private and not read."
+-- "With a zero extender there are no extensions, and bytes from 352 are private and not read." Since P2 an extender is zero where its first
+-- byte is (`hasExtensions`, layout/File).
 abbrev pub extensionsOf : Layout → List ℕ → Walked
 extensionsOf l s = cond (hasExtensions s) (extensionsIn (l .order) (regionEnd (l .kind) (l .image) (length s)) s) (listed [])
 

@@ -32,7 +32,7 @@ use Rattle.rules.specs.declared.Shape.{Shape}
 use Rattle.rules.specs.Rules.{oneToSeven, axisCount, bytesOfImage, imageOf, shapeOfRecord, cutShort, regionEnd}
 use Rattle.rules.proofs.Passed.{Fields}
 use Rattle.layout.specs.File.{holdsIn, orderOf, sameBytes, hasMagic, kindOf, shapeIn, shapeOf, layoutOf, endOf}
-use Rattle.layout.specs.File.{extenderOf, noExtensions, someExtensions, hasNone, hasExtensions}
+use Rattle.layout.specs.File.{extenderOf, saysSome, hasExtensions}
 use Rattle.reader.specs.declared.Reading.{Reading}
 use Rattle.reader.specs.Reading.{extensionsOf, readingOf, IsAccepted}
 use Rattle.reader.proofs.File.{same-is, extended-region, Rules, AcceptedFile, judged-file, file-judged, file-reads}
@@ -146,11 +146,7 @@ module _ (s : List ℕ) (xs : List Span) (f : AcceptedFile s xs) (t : Turn) (ht 
 
   new-some : hasExtensions new ≡ hasExtensions s
   unfolding hasExtensions
-  new-some = ap (λ (b : List ℕ). sameBytes b someExtensions) new-extender
-
-  new-none : hasNone new ≡ hasNone s
-  unfolding hasNone
-  new-none = ap (λ (b : List ℕ). sameBytes b noExtensions) new-extender
+  new-some = ap saysSome new-extender
 
   module _ (w : Writable old) where
     -- ---- the header
@@ -241,7 +237,6 @@ module _ (s : List ℕ) (xs : List Span) (f : AcceptedFile s xs) (t : Turn) (ht 
             fields = rw (new-shape, n) fields-new;
             whole = (λ i. cutShort (new-kind i) (n i) (new-image i)) ∙ r .whole;
             extended = rw (new-kind, n) (r .extended);
-            extender = rw (new-none, new-some) (r .extender);
           }
 
       new-rest : hasExtensions s ≡ true → restOf new (endOf s) firstPlace ≡ restOf s (endOf s) firstPlace

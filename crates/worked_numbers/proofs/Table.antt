@@ -15,7 +15,7 @@ use Rattle.slices.specs.Ranks.{orderIn, altRank, alt2Rank, rankOf}
 use Rattle.extension.specs.Walk.{sizeRule, found, walk, extensionsIn}
 use Rattle.extension.specs.Pieces.{pieces}
 use Rattle.header.specs.Fields.{headerOf}
-use Rattle.layout.specs.File.{holdsIn, orderOf, hasMagic, kindOf, shapeIn, hasNone, hasExtensions, endOf}
+use Rattle.layout.specs.File.{holdsIn, orderOf, hasMagic, kindOf, shapeIn, hasExtensions, endOf}
 use Rattle.reader.specs.Reading.{judgement, readingOf}
 use Rattle.timing.specs.Slices.{isStated, firstOf, sliceBy}
 use Rattle.voxel.specs.Voxel.{locatedBy}
@@ -41,7 +41,7 @@ files :
     ∷ (0 ∷ [])
     ∷ (11 ∷ 108 ∷ [])
     ∷ []
-unfolding readingOf judgement verdict holdsIn u16At u32At orderOf hasMagic kindOf shapeIn hasNone hasExtensions
+unfolding readingOf judgement verdict holdsIn u16At u32At orderOf hasMagic kindOf shapeIn hasExtensions
     firstBelow datatypeOf isWhole wholeOf ofBits lt imageBytes voxels axes
 files = refl
 
@@ -53,7 +53,7 @@ in-a :
     ≡ (0 ∷ 362 ∷ 2 ∷ [])
     ∷ (17 ∷ 0 ∷ [])
     ∷ []
-unfolding readingOf judgement verdict holdsIn u16At u32At orderOf hasMagic kindOf shapeIn hasNone hasExtensions
+unfolding readingOf judgement verdict holdsIn u16At u32At orderOf hasMagic kindOf shapeIn hasExtensions
     firstBelow datatypeOf isWhole wholeOf ofBits lt imageBytes voxels axes sevenAxes within voxelNumber locatedBy
     locatedOf headerOf
 in-a = refl
@@ -74,7 +74,7 @@ offsets :
     ∷ (9 ∷ 108 ∷ [])
     ∷ (9 ∷ 108 ∷ [])
     ∷ []
-unfolding readingOf judgement verdict holdsIn u16At u32At orderOf hasMagic kindOf shapeIn hasNone hasExtensions
+unfolding readingOf judgement verdict holdsIn u16At u32At orderOf hasMagic kindOf shapeIn hasExtensions
     firstBelow datatypeOf isWhole wholeOf ofBits lt imageBytes voxels axes
 offsets = refl
 
@@ -88,7 +88,7 @@ append :
     ∷ (0 ∷ 380 ∷ [])
     ∷ (0x43 ∷ 0xB8 ∷ 0 ∷ 0 ∷ [])
     ∷ []
-unfolding readingOf judgement verdict holdsIn u16At u32At orderOf hasMagic kindOf shapeIn hasNone hasExtensions
+unfolding readingOf judgement verdict holdsIn u16At u32At orderOf hasMagic kindOf shapeIn hasExtensions
     firstBelow datatypeOf isWhole wholeOf ofBits lt imageBytes voxels axes outcomeOf changeVerdict freshFile
     editedList extensionList exchange stored endOf tailOf pieces settled put bytesOf padded offsetBits toBits
     ofInt
@@ -100,7 +100,7 @@ append-voxel :
     ∷ []
     ≡ (0 ∷ 378 ∷ 2 ∷ [])
     ∷ []
-unfolding readingOf judgement verdict holdsIn u16At u32At orderOf hasMagic kindOf shapeIn hasNone hasExtensions
+unfolding readingOf judgement verdict holdsIn u16At u32At orderOf hasMagic kindOf shapeIn hasExtensions
     firstBelow datatypeOf isWhole wholeOf ofBits lt imageBytes voxels axes sevenAxes within voxelNumber locatedBy
     locatedOf headerOf outcomeOf changeVerdict freshFile editedList extensionList exchange stored endOf tailOf
     pieces settled put bytesOf padded offsetBits toBits ofInt extensionsIn walk found sizeRule
@@ -112,7 +112,7 @@ alt-inc :
     ∷ []
     ≡ (1 ∷ 2 ∷ 0 ∷ 2 ∷ 3 ∷ 2 ∷ 1 ∷ 2 ∷ 4 ∷ 2 ∷ 2 ∷ [])
     ∷ []
-unfolding readingOf judgement verdict holdsIn u16At u32At orderOf hasMagic kindOf shapeIn hasNone hasExtensions
+unfolding readingOf judgement verdict holdsIn u16At u32At orderOf hasMagic kindOf shapeIn hasExtensions
     firstBelow datatypeOf isWhole wholeOf ofBits lt imageBytes voxels axes sliceOf sliceBy firstOf isStated
     headerOf mul ofInt orderIn altRank alt2Rank rankOf
 alt-inc = refl
@@ -123,7 +123,7 @@ alt-dec2 :
     ∷ []
     ≡ (1 ∷ 2 ∷ 4 ∷ 2 ∷ 1 ∷ 2 ∷ 3 ∷ 2 ∷ 0 ∷ 2 ∷ 2 ∷ [])
     ∷ []
-unfolding readingOf judgement verdict holdsIn u16At u32At orderOf hasMagic kindOf shapeIn hasNone hasExtensions
+unfolding readingOf judgement verdict holdsIn u16At u32At orderOf hasMagic kindOf shapeIn hasExtensions
     firstBelow datatypeOf isWhole wholeOf ofBits lt imageBytes voxels axes sliceOf sliceBy firstOf isStated
     headerOf mul ofInt orderIn altRank alt2Rank rankOf
 alt-dec2 = refl

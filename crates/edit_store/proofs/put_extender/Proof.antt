@@ -1,44 +1,43 @@
--- `put_extender` meets its contract: its four bytes are those of 1 or of 0, the least significant first.
-use mathlib.Core.Path.{_∙_}
+-- `put_extender` meets its contract: by the file's length the three bytes behind the first become zeros, or stay as they are.
+use mathlib.Core.Path.{_≡_, _∙_}
+use mathlib.Core.Logic.{⊎-elim}
 use native.Mathlib.Omega.{arith}
 use borrow.Author.Tests.{lt-ltb, le-ltb}
 use denote.Ref.{now}
-use Rattle.field.specs.declared.Order.the-variants.{Little}
-use Rattle.field.specs.Numbers.{bytesOf, padded}
-use Rattle.buffer.proofs.Laws.{sets-put}
+use lib.ListN.{length, set}
+use Rattle.buffer.specs.Put.{put}
+use Rattle.edit_store.specs.Stores.{firstByteAt, extenderBytes}
+use Rattle.edit_store.proofs.Storing.{first-kept, first-new}
 use borrow.Author.Needs.{needs}
 use Rattle.edit_store.proofs.put_extender.Statement.{statement}
 use Rattle.edit_store.proofs.put_extender.Tie as tie
 
-put-u32-requires : tie.Need-put-u32-requires
-put-u32-requires c κs = search needs
+-- where the two ways meet, for the length and for the first byte
+meet-length : (j : tie.Joined1) → length (j .if1 .buf) ≡ length (now (j .before .before .args .buf))
+meet-length j = ⊎-elim (λ w. rw (w .5) (w .2 .kept .0)) (λ w. rw (w .1)) (j .if1 .came)
 
-put-u32-requires-2 : tie.Need-put-u32-requires-2
-put-u32-requires-2 c κs = search needs
+meet-bytes : (j : tie.Joined1)
+    → set (j .if1 .buf) 348 (firstByteAt (j .before .before .args .end))
+    ≡ put (now (j .before .before .args .buf)) 348
+    (extenderBytes (j .before .before .args .len) (j .before .before .args .end) (now (j .before .before .args .buf)))
+meet-bytes j =
+    let S = j .before .before in
+    let l = now (S .args .buf) in
+    let b = firstByteAt (S .args .end) in
+    ⊎-elim (λ w. rw (lt-ltb (S .args .len) 352 (omega (arith, w .0 .taken))) (first-new l (j .if1 .buf) b (S .pre) (w .5 ∙ w .2 .ensures)))
+    (λ w. rw (le-ltb (S .args .len) 352 (omega (arith, w .0 .left)), w .1) (first-kept l b (S .pre))) (j .if1 .came)
+
+clear-requires : tie.Need-clear-requires
+clear-requires c κs = search needs
+
+put-first-requires : tie.Need-put-first-requires
+put-first-requires c κs = search needs
 
 same-length : tie.Need-same-length
-same-length c = search needs
+same-length c = c .before .before .put-first .kept .0 ∙ meet-length (c .before .before .before .before)
 
 returns : tie.Need-returns
-unfolding bytesOf padded
-returns c =
-    let a = c .before .before .before .before .before .before .args in
-    c .before .before .put-u32 .ensures
-    ∙ sets-put (now (a .buf)) 348 (bytesOf Little 4 1) (omega arith)
-    ∙ rw (lt-ltb 352 (a .end) (c .before .before .before .before .if1 .taken))
-
-same-length-2 : tie.Need-same-length-2
-same-length-2 c = search needs
-
-returns-2 : tie.Need-returns-2
-unfolding bytesOf padded
-returns-2 c =
-    let a = c .before .before .before .before .before .before .args in
-    c .before .before .put-u322 .ensures
-    ∙ sets-put (now (a .buf)) 348 (bytesOf Little 4 0) (omega arith)
-    ∙ rw (le-ltb 352 (a .end) (c .before .before .before .before .if1 .left))
+returns c = c .before .before .put-first .ensures ∙ meet-bytes (c .before .before .before .before)
 
 pub put-extender-spec : {M : Type 1} → statement M
-put-extender-spec =
-    tie.close
-    (tie.spec put-u32-requires put-u32-requires-2 same-length returns same-length-2 returns-2)
+put-extender-spec = tie.close (tie.spec clear-requires put-first-requires same-length returns)

@@ -1,4 +1,4 @@
--- `check_end` meets its contract: rule 11, then rule 12, whose test is the one that is made.
+-- `check_end` meets its contract: rule 11, then rule 12.
 use mathlib.Core.Path.{sym, _∙_}
 use Rattle.refusal.specs.Table.{verdict}
 use borrow.Author.Needs.{needs}
@@ -12,9 +12,6 @@ returns : tie.Need-returns
 unfolding verdict
 returns c = rw (sym (c .before .cut-short .ensures) ∙ c .if1 .taken)
 
-is-extender-requires : tie.Need-is-extender-requires
-is-extender-requires c κs = search needs
-
 cut-extender-requires : tie.Need-cut-extender-requires
 cut-extender-requires c κs = search needs
 
@@ -22,17 +19,13 @@ returns-2 : tie.Need-returns-2
 unfolding verdict
 returns-2 c =
     let x = c .before in
-    let n = x .before in
-    let t = rw (x .cut-extender .ensures, n .is-extender .ensures) at (c .if2 .taken) in
-    simp (sym (n .before .before .cut-short .ensures) ∙ n .before .if1 .left, t)
+    simp (sym (x .before .before .cut-short .ensures) ∙ x .before .if1 .left, sym (x .cut-extender .ensures) ∙ c .if2 .taken)
 
 returns-3 : tie.Need-returns-3
 unfolding verdict
 returns-3 c =
     let x = c .before in
-    let n = x .before in
-    let t = rw (x .cut-extender .ensures, n .is-extender .ensures) at (c .if2 .left) in
-    simp (sym (n .before .before .cut-short .ensures) ∙ n .before .if1 .left, t)
+    simp (sym (x .before .before .cut-short .ensures) ∙ x .before .if1 .left, sym (x .cut-extender .ensures) ∙ c .if2 .left)
 
 pub check-end-spec : {M : Type 1} → statement M
 check-end-spec =
@@ -40,7 +33,6 @@ check-end-spec =
     (tie.spec
     cut-short-requires
     returns
-    is-extender-requires
     cut-extender-requires
     returns-2
     returns-3)
