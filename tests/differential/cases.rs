@@ -1,6 +1,7 @@
 //! The comparison's inputs: files valid and damaged, the call's arguments at and beside their borders, and where the buffers lie.
 //! Everything follows from the seed and the case's number.
 
+use crate::extender_cases::{self, EXTENDERS};
 use crate::files::{extension, Header, EXTENSIONS, NO_EXTENSIONS, OFFSET_352};
 use crate::library::STATE_WORDS;
 use crate::memory::Where;
@@ -226,14 +227,24 @@ pub fn srow(random: &mut Random, header: &mut Header) {
     }
 }
 
+/// An extender with this first byte. In half of them the reserved bytes are zeros.
+pub fn extender(random: &mut Random, first: u8) -> [u8; 4] {
+    let [any, other, last] = [0; 3].map(|_| random.next() as u8);
+    let reserved = random.pick(&[[0, 0, 7], [9, 9, 9], [1, 2, 3], [0, 0, 1], [1, 0, 0], [255, 255, 255], [any, other, last]]);
+    let [a, b, c] = if random.once_in(2) { [0; 3] } else { reserved };
+    [first, a, b, c]
+}
+
 /// The extender and what follows it in the region.
 fn region(random: &mut Random, order: Order) -> Vec<u8> {
     if random.once_in(3) {
         let private = if random.once_in(2) { 0 } else { random.size(70) };
-        return [&NO_EXTENSIONS[..], &random.bytes(private)].concat();
+        return [&extender(random, 0)[..], &random.bytes(private)].concat();
     }
     let count = random.pick(&[1, 1, 1, 2, 2, 3, 4, 8, 30, 63, 64, 64, 65]);
-    let mut region = EXTENSIONS.to_vec();
+    let any = 1 + random.below(255) as u8;
+    let first = random.pick(&[1, 1, 1, 2, 128, 255, any]);
+    let mut region = extender(random, first).to_vec();
     for _ in 0..count {
         let size = if random.once_in(20) { 16 * (1 + random.size(200)) } else { 16 * (1 + random.size(3)) };
         let any = random.next() as i32 & i32::MAX;
@@ -347,9 +358,7 @@ fn damage(random: &mut Random, file: &mut Vec<u8>) {
             set16(file, at, random.pick(&[2, 4, 8, 16, 24, 32, 64, 128, 256, 512, 768, 1024, 1536, -8, 0]), order);
         }
         12 => set32(file, 108, random.pick(&OFFSETS), order),
-        13 => {
-            set(file, 348, random.pick(&[&[1, 0, 0, 0], &[0, 0, 0, 0], &[1, 0, 0, 1], &[0, 0, 0, 1], &[2, 0, 0, 0], &[0, 1, 0, 0]]))
-        }
+        13 => set(file, 348, &random.pick(&EXTENDERS)),
         14 => {
             let start = some_extension(random, file, order);
             let left = file.len().saturating_sub(start) as u32;
@@ -589,7 +598,7 @@ impl Case {
         other_bytes(&self.other, zeros)
     }
 
-    fn at(call: Call, main: Vec<u8>, other: Other) -> Case {
+    pub fn at(call: Call, main: Vec<u8>, other: Other) -> Case {
         Case::filling(call, main, other, [Other::none(), Other::none()])
     }
 
@@ -598,7 +607,7 @@ impl Case {
         Case { call, main, other, main_at, other_at, rooms, rooms_at, feeding: Feeding::Not }
     }
 
-    fn fed(main: Vec<u8>, feeding: Feeding) -> Case {
+    pub fn fed(main: Vec<u8>, feeding: Feeding) -> Case {
         Case { feeding, ..Case::at(Call::Read, main, Other::none()) }
     }
 
@@ -671,13 +680,13 @@ fn slice(random: &mut Random, file: &[u8], known: Option<&Known>) -> u64 {
 }
 
 /// The cases that hang on no seed, and come first.
-pub const FIXED: u64 = LARGE + CUT + TALL + turn_cases::FIXED;
+pub const FIXED: u64 = LARGE + CUT + TALL + extender_cases::FIXED + turn_cases::FIXED;
 
 /// The cases at 2^27 and 2^40, which take up to half a gigabyte while they run; the files that are cut at every place; those that
 /// are fed up to 2^41 bytes.
 const LARGE: u64 = 22;
-const CUT: u64 = 20;
-const TALL: u64 = 12;
+const CUT: u64 = 22;
+const TALL: u64 = 13;
 
 pub fn fixed(number: u64) -> Case {
     if number < LARGE {
@@ -686,8 +695,10 @@ pub fn fixed(number: u64) -> Case {
         Case::fed(cut_everywhere(number - LARGE), Feeding::EveryCut)
     } else if number < LARGE + CUT + TALL {
         Case::fed(tall(number - LARGE - CUT), Feeding::ToTotal)
+    } else if number < LARGE + CUT + TALL + extender_cases::FIXED {
+        extender_cases::fixed(number - LARGE - CUT - TALL)
     } else {
-        turn_cases::fixed(number - LARGE - CUT - TALL)
+        turn_cases::fixed(number - LARGE - CUT - TALL - extender_cases::FIXED)
     }
 }
 
@@ -731,9 +742,9 @@ fn cut_everywhere(number: u64) -> Vec<u8> {
         // 15 at a byte of a 65th, whatever it holds
         9 => pair_over(Big, &extensions(Big, &many(65))),
         10 => pair_over(Little, &[extensions(Little, &many(64)), vec![0xff; 8]].concat()),
-        // 11, then 12
-        11 => single_over(Little, &[0; 16]).file(&[&[1, 0, 0, 1], &extensions(Little, &[(16, 0)]), &[0x77; 12]]),
-        12 => Header::new(Big, true).dims(&[3, 2]).datatype(4).file(&[&[0, 1, 0, 0], &extensions(Big, &[(16, 0)])]),
+        // reserved bytes; of a pair 12 before they have come
+        11 => single_over(Little, &[0; 16]).file(&[&[1, 0, 0, 7], &extensions(Little, &[(16, 0)]), &[0x77; 12]]),
+        12 => Header::new(Big, true).dims(&[3, 2]).datatype(4).file(&[&[2, 9, 9, 9], &extensions(Big, &[(16, 0), (32, -1)])]),
         // fewer than 8, and fewer than 16 bytes before the image, which are no extension
         13 => whole_single(Little, &[extensions(Little, &[(16, 0)]), vec![16, 0, 0]].concat()),
         14 => whole_single(Big, &[extensions(Big, &[(16, 0)]), vec![0, 0, 0, 16, 0, 0, 0, 2, 5, 5, 5, 5, 5]].concat()),
@@ -742,8 +753,10 @@ fn cut_everywhere(number: u64) -> Vec<u8> {
         // private bytes that look like an extension
         16 => single_over(Little, &[0; 16]).file(&[&NO_EXTENSIONS, &extensions(Little, &[(16, 3)]), &[0x77; 12]]),
         17 => Header::new(Big, true).dims(&[3, 2]).datatype(4).file(&[&NO_EXTENSIONS, &extensions(Big, &[(16, 3)])]),
+        18 => single_over(Big, &[0; 16]).file(&[&[0, 1, 2, 3], &extensions(Big, &[(16, 3)]), &[0x77; 12]]),
+        19 => Header::new(Little, true).dims(&[3, 2]).datatype(4).file(&[&[0, 1, 2, 3], &extensions(Little, &[(16, 3)])]),
         // an empty region
-        18 => whole_single(Big, &[]),
+        20 => whole_single(Big, &[]),
         _ => pair_over(Little, &[]),
     }
 }
@@ -770,6 +783,7 @@ fn tall(number: u64) -> Vec<u8> {
         8 => pair_over(Little, &extensions(Little, &[(24, 0)])),
         9 => pair_over(Big, &extensions(Big, &vec![(16, 0); 65])),
         10 => pair_over(Little, &head(Little, 0x7fff_fff0, 6)),
+        11 => Header::new(Little, true).dims(&[3, 2]).datatype(4).file(&[&[255, 1, 2, 3], &head(Little, full, 6)]),
         _ => Header::new(Big, true).dims(&[3, 2]).datatype(4).bytes,
     }
 }

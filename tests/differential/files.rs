@@ -2,6 +2,7 @@
 
 use crate::rules::{bytes_of_u32, Order, DATATYPES, HEADER};
 
+/// Extenders whose reserved bytes are zeros.
 pub const NO_EXTENSIONS: [u8; 4] = [0, 0, 0, 0];
 pub const EXTENSIONS: [u8; 4] = [1, 0, 0, 0];
 

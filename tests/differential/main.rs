@@ -1,12 +1,16 @@
 //! Compares the library, called through its C interface, with the rules of 01-scope.md and 02-change-requests.md written a second
 //! time in rules.rs and turn.rs: the whole answer, the whole of every lent buffer, and the bytes beside it. A file that is read is
-//! fed in pieces too, and a turn that is not refused is held to the laws of turns.
+//! fed in pieces too, a turn that is not refused is held to the laws of turns, and a file whose extender is one of the base's is
+//! held to the base's rule.
 //!
 //!     differential [--cases N] [--seed S] [--only CASE] [--self-check]
 //!
-//! It fails on any difference, and where a refusal that a call can give was never reached, or two of a turn never held together.
+//! It fails on any difference, and where a refusal that a call can give was never reached, two of a turn never held together, or a
+//! call was never done with some kind of extender.
 
 mod cases;
+mod extender_cases;
+mod extenders;
 mod files;
 mod library;
 mod memory;
@@ -16,18 +20,20 @@ mod self_check;
 mod turn;
 mod turn_cases;
 mod turn_laws;
+mod wrong_extenders;
 mod wrong_turns;
 
 use cases::{Call, Case, Feeding, Other, Piece};
 use library::*;
 use memory::{Area, Lent, Tall, Where};
-use rules::{Edit, Known, Order, Refusal, Slice, Span};
+use rules::{Edit, Extender, Known, Order, Refusal, Slice, Span, RESERVED};
 use std::collections::BTreeMap;
 use std::sync::atomic::Ordering;
 use turn::Turn;
 use turn_laws::{Both, Engine, Tried};
 
 /// What a call leaves behind: its answer and the content of the two buffers, and of the two that a turn fills.
+#[derive(PartialEq)]
 struct Outcome {
     answer: Answer,
     main: Vec<u8>,
@@ -96,8 +102,8 @@ fn over(buffer: &[u8], first: &[u8]) -> Vec<u8> {
     [first, &buffer[first.len()..]].concat()
 }
 
-/// What the rules say of the case.
-fn by_rules(case: &Case, zeros: &[u8]) -> Outcome {
+/// What the rules say of the case, with this one of the extender where a file is read or edited.
+fn by_rules(extender: &Extender, case: &Case, zeros: &[u8]) -> Outcome {
     let main = &case.main;
     let other = case.other(zeros);
     let own = case.other.own();
@@ -105,13 +111,16 @@ fn by_rules(case: &Case, zeros: &[u8]) -> Outcome {
         let rooms = [0, 1].map(|i: usize| case.rooms[i].own().to_vec());
         Outcome { answer, main: main.clone(), other: own.to_vec(), rooms }
     };
-    let edited = |file_len, edit| match rules::edit(main, file_len, &edit) {
+    let read = || rules::read_by(extender, main);
+    let edited = |file_len, edit| match rules::edit_by(extender, main, file_len, &edit) {
         Ok((whole, length)) => Outcome { main: whole, ..kept(reply(Ok((0, length)))) },
         Err(no) => kept(reply(Err(no))),
     };
     match case.call {
-        Call::Read => kept(Answer::File(file_answer(&rules::read(main)))),
-        Call::ExtensionAt { number } => kept(Answer::Extension(extension_answer(rules::extension_at(main, number)))),
+        Call::Read => kept(Answer::File(file_answer(&read()))),
+        Call::ExtensionAt { number } => {
+            kept(Answer::Extension(extension_answer(read().and_then(|known| rules::numbered(&known, number)))))
+        }
         Call::Voxel { index } => kept(reply(rules::voxel(main, other.len() as u64, index))),
         Call::SliceAt { slice } => kept(slice_answer(main, slice)),
         Call::PositionOf { index } => kept(position_answer(main, index)),
@@ -236,7 +245,7 @@ fn buffer_difference(name: &str, rules: &[u8], library: &[u8], guards_kept: bool
 
 /// How the library differs from the rules.
 fn compare(case: &Case, memory: &mut Memory, counts: &mut Counts) -> Option<String> {
-    let expected = by_rules(case, memory.zeros);
+    let expected = by_rules(&RESERVED, case, memory.zeros);
     let (zeros, closed) = (memory.zeros, memory.closed);
     let main = memory.main.lend(&case.main, case.main_at);
     let (lent, other) = lend(&mut memory.other, &case.other, case.other_at, zeros, closed);
@@ -244,6 +253,7 @@ fn compare(case: &Case, memory: &mut Memory, counts: &mut Counts) -> Option<Stri
         [0, 1].map(|i: usize| lend(&mut memory.rooms[i], &case.rooms[i], case.rooms_at[i], zeros, closed));
     let answer = unsafe { call(case.call, (main.pointer, main.length), other, [out_buffer, out_image_buffer]) };
     counts.add(call_number(&case.call), expected.answer.refusal());
+    counts.extenders.count(case, expected.answer.refusal());
     if answer != expected.answer {
         return Some(format!("\n  rules   {:?}\n  library {:?}", expected.answer, answer));
     }
@@ -255,6 +265,7 @@ fn compare(case: &Case, memory: &mut Memory, counts: &mut Counts) -> Option<Stri
     ];
     lent.iter()
         .find_map(|(name, rules, area, lent)| buffer_difference(name, rules, area.content(lent), area.guards_kept(lent)))
+        .or_else(|| counts.extenders.base_difference(case, zeros, &expected))
         .or_else(|| turn_difference(case, counts))
         .or_else(|| pieces::difference(memory.main.content(&main), &case.feeding, &mut memory.other, &mut memory.tall, counts))
 }
@@ -388,6 +399,7 @@ struct Counts {
     together: BTreeMap<(u64, u64), u64>,
     /// How often the laws of a turn were tried.
     tried: Tried,
+    extenders: extenders::Reached,
 }
 
 /// The refusals of a turn that may hold together: of two the one that is tried first, and the other.
@@ -415,9 +427,10 @@ impl Counts {
         println!("two refusals of a turn, the first given: {}", pairs.join(", "));
         let Tried { back, composed, swapped } = self.tried;
         println!("laws of a turn: {back} turned back, {composed} composed, {swapped} swapped");
+        self.extenders.print();
     }
 
-    /// Which refusals were never reached, alone or before another, and which laws were never tried.
+    /// Which refusals were never reached, alone or before another, which laws were never tried, and which extenders never met.
     fn missing(&self) -> Vec<String> {
         let all = (0..CALLS.len()).flat_map(|call| possible(call).into_iter().map(move |number| (call, number)));
         let given = all
@@ -430,7 +443,7 @@ impl Counts {
         let Tried { back, composed, swapped } = self.tried;
         let laws = [(back, "a turn back"), (composed, "a composed turn"), (swapped, "a turn and a swap")];
         let tried = laws.into_iter().filter(|law| law.0 == 0).map(|law| law.1.to_string());
-        given.chain(together).chain(tried).collect()
+        given.chain(together).chain(tried).chain(self.extenders.missing()).collect()
     }
 }
 

@@ -128,7 +128,7 @@ pub struct Known {
     pub image_bytes: u64,
     /// Where the extension region ends: vox_offset, or a pair's file length.
     pub region_end: u64,
-    /// The extender is 1,0,0,0.
+    /// The first byte of the extender is not zero.
     pub extended: bool,
     pub spans: Vec<Span>,
 }
@@ -162,8 +162,41 @@ fn order_of(file: &[u8]) -> Option<Order> {
     [Order::Little, Order::Big].into_iter().find(|&order| (1..=7).contains(&i16_at(file, 40, order)))
 }
 
+/// The rule of the extender, the four bytes at 348.
+#[derive(Clone, Copy)]
+pub struct Extender {
+    /// Whether extensions follow, of a file that rules 1 to 11 pass. Refusal 12.
+    pub read: fn(&[u8]) -> Result<bool, Refusal>,
+    /// What an edit writes, by the buffer, the length of the file in it, and whether the edited list has an extension.
+    pub written: fn(&[u8], usize, bool) -> [u8; 4],
+}
+
+/// By "The three reserved bytes" (02-change-requests.md, P2). A single file that rules 1 to 11 pass has 352 bytes at least.
+pub const RESERVED: Extender = Extender {
+    read: |file| match file.len() {
+        348 => Ok(false),
+        349..=351 => refuse(12, 348),
+        _ => Ok(file[348] != 0),
+    },
+    written: |buffer, file_len, some| {
+        let [a, b, c] = if file_len == 348 { [0; 3] } else { [buffer[349], buffer[350], buffer[351]] };
+        [some as u8, a, b, c]
+    },
+};
+
+/// By 01-scope.md, as it was before P2.
+pub const BASE: Extender = Extender {
+    read: |file| match file.get(348..352) {
+        None if file.len() == 348 => Ok(false),
+        Some([0, 0, 0, 0]) => Ok(false),
+        Some([1, 0, 0, 0]) => Ok(true),
+        _ => refuse(12, 348),
+    },
+    written: |_, _, some| [some as u8, 0, 0, 0],
+};
+
 /// What the header and the file's length tell, without the extensions. Refusals 1 to 12.
-fn layout(file: &[u8]) -> Result<Known, Refusal> {
+fn layout(rule: &Extender, file: &[u8]) -> Result<Known, Refusal> {
     let length = file.len() as u64;
     if file.len() < HEADER {
         return refuse(1, 0);
@@ -209,12 +242,7 @@ fn layout(file: &[u8]) -> Result<Known, Refusal> {
     if !pair && length < offset + image_bytes {
         return refuse(11, 108);
     }
-    let extended = match file.get(348..352) {
-        None if length == 348 => false,
-        Some([0, 0, 0, 0]) => false,
-        Some([1, 0, 0, 0]) => true,
-        _ => return refuse(12, 348),
-    };
+    let extended = (rule.read)(file)?;
     let region_end = if pair { length } else { offset };
     Ok(Known { order, pair, dim, datatype, bitpix, unit, offset, image_bytes, region_end, extended, spans: Vec::new() })
 }
@@ -222,7 +250,11 @@ fn layout(file: &[u8]) -> Result<Known, Refusal> {
 /// What is known of a file that rules 1 to 12 do not refuse, with its extensions up to the first that rules 13 to 15 refuse, and
 /// that refusal. Refusals 1 to 12.
 pub fn walked(file: &[u8]) -> Result<(Known, Option<Refusal>), Refusal> {
-    let mut known = layout(file)?;
+    walked_by(&RESERVED, file)
+}
+
+fn walked_by(rule: &Extender, file: &[u8]) -> Result<(Known, Option<Refusal>), Refusal> {
+    let mut known = layout(rule, file)?;
     while known.extended && (known.spans.is_empty() || known.next_start() < known.region_end) {
         match next_extension(file, &known) {
             Ok(span) => known.spans.push(span),
@@ -234,7 +266,11 @@ pub fn walked(file: &[u8]) -> Result<(Known, Option<Refusal>), Refusal> {
 
 /// Refusals 1 to 15.
 pub fn read(file: &[u8]) -> Result<Known, Refusal> {
-    match walked(file)? {
+    read_by(&RESERVED, file)
+}
+
+pub fn read_by(rule: &Extender, file: &[u8]) -> Result<Known, Refusal> {
+    match walked_by(rule, file)? {
         (known, None) => Ok(known),
         (_, Some(no)) => Err(no),
     }
@@ -473,11 +509,15 @@ fn edited_list<'a>(file: &'a [u8], known: &Known, edit: &Edit<'a>) -> Vec<Entry<
 
 /// The whole buffer afterwards and the new file length. Refusals 24, 1 to 15, 18 to 22.
 pub fn edit(buffer: &[u8], file_len: u64, edit: &Edit) -> Result<(Vec<u8>, u64), Refusal> {
+    edit_by(&RESERVED, buffer, file_len, edit)
+}
+
+pub fn edit_by(rule: &Extender, buffer: &[u8], file_len: u64, edit: &Edit) -> Result<(Vec<u8>, u64), Refusal> {
     if file_len > buffer.len() as u64 {
         return refuse(24, 0);
     }
     let file = &buffer[..file_len as usize];
-    let known = read(file)?;
+    let known = read_by(rule, file)?;
     check_arguments(&known, edit)?;
     let entries = edited_list(file, &known, edit);
     let region_end = REGION + entries.iter().map(Entry::size).sum::<u64>();
@@ -495,7 +535,7 @@ pub fn edit(buffer: &[u8], file_len: u64, edit: &Edit) -> Result<(Vec<u8>, u64),
         // a multiple of 16 up to 2^27, so exact in binary32
         whole[108..112].copy_from_slice(&bytes_of_u32((region_end as f32).to_bits(), known.order));
     }
-    whole.extend([!entries.is_empty() as u8, 0, 0, 0]);
+    whole.extend((rule.written)(buffer, file.len(), !entries.is_empty()));
     entries.iter().for_each(|entry| entry.write(known.order, &mut whole));
     whole.extend_from_slice(tail);
     whole.resize(whole.len().max(file.len()), 0);

@@ -8,7 +8,7 @@ use crate::pieces::twin;
 use crate::rules::*;
 use crate::turn::{came_from, faults, reversed_row, turn, Turn};
 use crate::turn_laws::{broken, Both, Engine, Tried};
-use crate::{case, memory, turn_cases, wrong_turns};
+use crate::{case, extender_cases, memory, turn_cases, wrong_extenders, wrong_turns};
 use std::fmt::Debug;
 
 #[derive(Default)]
@@ -160,7 +160,74 @@ fn headers(checks: &mut Checks) {
         checks.refused("pair of 349..351 bytes", read(&pair(BIG).file(&[&NO_EXTENSIONS])[..length]), 12, 348);
     }
     checks.holds("pair of 348 bytes", read(&pair(BIG).bytes).is_ok());
-    checks.refused("extender 1,0,0,1", read(&changed(a, 348, &[1, 0, 0, 1])), 12, 348);
+}
+
+/// The first byte of the extender alone has a meaning; an edit writes it and keeps the others (02-change-requests.md, P2).
+fn reserved_bytes(checks: &mut Checks) {
+    let count = |file: &[u8]| read(file).map(|known| known.spans.len());
+    let hello = extension(BIG, 16, 6, b"hello\0\0\0");
+    let image = [7; 12];
+    let noted = |extender: [u8; 4]| single(BIG).offset(368_f32.to_bits()).file(&[&extender, &hello, &image]);
+    for extender in [[1, 0, 0, 0], [1, 0, 0, 1], [1, 0, 0, 7], [2, 9, 9, 9], [255, 1, 2, 3], [128, 0, 0, 0]] {
+        checks.equal("extensions in a single file", count(&noted(extender)), Ok(1));
+        checks.equal("extensions in a pair", count(&pair(BIG).file(&[&extender, &hello, &hello])), Ok(2));
+        checks.refused("an empty region", read(&changed(file_a(), 348, &extender)), 13, 352);
+        checks.refused("an empty region of a pair", read(&pair(LITTLE).file(&[&extender])), 13, 352);
+    }
+    for extender in [[0, 0, 0, 0], [0, 0, 0, 1], [0, 1, 0, 0], [0, 1, 2, 3], [0, 255, 255, 255]] {
+        checks.equal("none in a single file", count(&changed(file_a(), 348, &extender)), Ok(0));
+        checks.equal("private bytes in a single file", count(&noted(extender)), Ok(0));
+        checks.equal("private bytes in a pair", count(&pair(LITTLE).file(&[&extender, &[0xff]])), Ok(0));
+    }
+    for length in 349..352 {
+        for extender in [[1, 0, 0, 7], [2, 9, 9, 9], [0, 1, 2, 3]] {
+            checks.refused("349..351 bytes, whatever they are", read(&pair(LITTLE).file(&[&extender])[..length]), 12, 348);
+        }
+    }
+    for extender in [[1, 0, 0, 7], [2, 0, 0, 0], [0, 0, 0, 1]] {
+        checks.refused("as the base had it", read_by(&BASE, &noted(extender)), 12, 348);
+    }
+
+    let append = Edit::Append { code: 6, payload: b"hello" };
+    let replace = Edit::Replace { number: 0, code: 6, payload: b"hello" };
+    let remove = Edit::Remove { number: 0 };
+    let twice = |extender: [u8; 4]| single(BIG).offset(384_f32.to_bits()).file(&[&extender, &hello, &hello, &image]);
+    let none = |extender: [u8; 4]| single(BIG).file(&[&extender, &image]);
+    let with_old = |file: Vec<u8>, length: usize, old: u8| [&file[..], &vec![old; length - file.len()]].concat();
+    for (before, one, empty) in [
+        ([1, 0, 0, 7], [1, 0, 0, 7], [0, 0, 0, 7]),
+        ([2, 9, 9, 9], [1, 9, 9, 9], [0, 9, 9, 9]),
+        ([255; 4], [1, 255, 255, 255], [0, 255, 255, 255]),
+    ] {
+        let buffer = with_old(noted(before), 400, 0xee);
+        checks.equal("append", edit(&buffer, 380, &append), Ok((with_old(twice(one), 400, 0xee), 396)));
+        checks.equal("replace", edit(&buffer, 380, &replace), Ok((with_old(noted(one), 400, 0xee), 380)));
+        checks.equal("remove one", edit(&twice(before), 396, &remove), Ok((with_old(noted(one), 396, 0), 380)));
+        checks.equal("remove the last", edit(&noted(before), 380, &remove), Ok((with_old(none(empty), 380, 0), 364)));
+    }
+    let empty = with_old(none([0, 1, 2, 3]), 390, 0xee);
+    checks.equal("append to none", edit(&empty, 364, &append), Ok((with_old(noted([1, 1, 2, 3]), 390, 0xee), 380)));
+    checks.refused("append after private bytes", edit(&with_old(noted([0, 1, 2, 3]), 400, 0xee), 380, &append), 20, 0);
+    let after = pair(BIG).file(&[&[0, 1, 2, 3], &[5], &[0xee; 40]]);
+    checks.refused("append after one private byte of a pair", edit(&after, 353, &append), 20, 0);
+    let grown = pair(BIG).file(&[&[1, 1, 2, 3], &hello, &[0xee; 25]]);
+    checks.equal("append to 352 bytes", edit(&changed(after, 352, &[0xee]), 352, &append), Ok((grown, 368)));
+    let bare = with_old(pair(BIG).bytes, 375, 0xee);
+    let grown = pair(BIG).file(&[&[1, 0, 0, 0], &hello, &[0xee; 7]]);
+    checks.equal("append to 348 bytes", edit(&bare, 348, &append), Ok((grown.clone(), 368)));
+    checks.holds("its exact fit", edit(&bare[..368], 348, &append).is_ok());
+    checks.refused("one byte short", edit(&bare[..367], 348, &append), 22, 0);
+    let emptied = pair(BIG).file(&[&[0; 4], &[0; 16], &[0xee; 7]]);
+    checks.equal("and taken out", edit(&grown, 368, &remove), Ok((emptied, 352)));
+
+    let swapped = swap(&noted([1, 0, 0, 7]), &[]).map(|both| both.0[348..352].to_vec());
+    checks.equal("a swap keeps all four", swapped, Ok(vec![1, 0, 0, 7]));
+    let volume = volume(BIG, true).file(&[&[2, 9, 9, 9], &hello]);
+    checks.equal(
+        "a turn keeps all four",
+        turned(&volume, &[0; 15], &QUARTER).map(|both| both.0[348..352].to_vec()),
+        Ok(vec![2, 9, 9, 9]),
+    );
 }
 
 fn extensions(checks: &mut Checks) {
@@ -542,8 +609,22 @@ fn turn_laws(checks: &mut Checks) {
     }
 }
 
+/// The wrong extenders on cases of the comparison: on those made for them, and on random ones alone.
+fn wrong_extenders(checks: &mut Checks) {
+    let zeros = memory::zeros(cases::ZEROS);
+    let turns = cases::FIXED - turn_cases::FIXED;
+    let fixed = turns - extender_cases::FIXED..turns;
+    let random = cases::FIXED..cases::FIXED + 20_000;
+    for numbers in [fixed, random] {
+        for (name, count) in wrong_extenders::noticed(numbers.map(|number| case(1, number, zeros)), zeros) {
+            checks.holds(name, count > 0);
+        }
+    }
+}
+
 /// Laws on random files: bytes that a state may not keep change nothing that is read, a swap twice restores, an edit's result is
-/// accepted and keeps every voxel, removing the extension just appended restores the file, and the voxels' ranges fill the image.
+/// accepted and keeps every voxel, removing the extension just appended restores the file but for a first extender byte above 1,
+/// the voxels' ranges fill the image, and the reserved bytes change nothing but themselves.
 fn laws(checks: &mut Checks) {
     let mut accepted = 0;
     for number in 0..2000 {
@@ -564,6 +645,7 @@ fn laws(checks: &mut Checks) {
             turned.order != known.order && Known { order: known.order, ..turned } == known,
         );
         checks.holds("a swap twice restores", swap(&other, &other_image) == Ok((file.clone(), image.clone())));
+        reserved_law(checks, file, &image, &other);
         checks.holds("the voxels fill the image", voxels_fill(&known, file, &image));
         let buffer = [file.clone(), vec![0; 64]].concat();
         let Ok((whole, length)) = edit(&buffer, file.len() as u64, &Edit::Append { code: 4, payload: b"a note of 19 bytes" })
@@ -577,9 +659,33 @@ fn laws(checks: &mut Checks) {
         let (before, after) = (voxel(file, image.len() as u64, last).unwrap(), voxel(edited, image.len() as u64, last).unwrap());
         checks.equal("voxels move with vox_offset", after.0 - before.0, moved.offset - known.offset);
         let (back, length) = edit(&whole, length, &Edit::Remove { number: known.spans.len() as u64 }).unwrap();
-        checks.holds("removing it restores the file", file.len() == 348 || back[..length as usize] == file[..]);
+        let mut restored = file.clone();
+        restored.resize(file.len().max(352), 0);
+        restored[348] = restored[348].min(1);
+        checks.holds("removing it restores the file", back[..length as usize] == restored);
     }
     checks.holds("enough random files", accepted > 500);
+}
+
+/// Other reserved bytes, and another first byte above 0, change nothing but themselves: of a file, that swapped, and edits.
+fn reserved_law(checks: &mut Checks, file: &[u8], image: &[u8], swapped: &[u8]) {
+    let Some(&[first, a, b, c]) = file.get(348..352) else {
+        return;
+    };
+    let first = if first == 0 { 0 } else { first % 255 + 1 };
+    let twin = changed(file.to_vec(), 348, &[first, !a, !b, !c]);
+    checks.holds("reserved bytes are not read", read(&twin) == read(file));
+    let expected = changed(swapped.to_vec(), 348, &[first, !a, !b, !c]);
+    checks.holds("reserved bytes are not swapped", swap(&twin, image).map(|both| both.0) == Ok(expected));
+    let with_room = |file: &[u8]| [file, &[0xee; 64]].concat();
+    let note = b"a note of 19 bytes.";
+    let edits =
+        [Edit::Append { code: 4, payload: note }, Edit::Replace { number: 0, code: 4, payload: note }, Edit::Remove { number: 0 }];
+    for one in edits {
+        let done = edit(&with_room(file), file.len() as u64, &one);
+        let expected = done.map(|(whole, length)| (changed(whole, 349, &[!a, !b, !c]), length));
+        checks.holds("reserved bytes are kept by an edit", edit(&with_room(&twin), file.len() as u64, &one) == expected);
+    }
 }
 
 fn voxels_fill(known: &Known, file: &[u8], image: &[u8]) -> bool {
@@ -597,8 +703,9 @@ fn voxels_fill(known: &Known, file: &[u8], image: &[u8]) -> bool {
 
 pub fn run() {
     let mut checks = Checks::default();
-    let values = [file_a_numbers, offsets, images, headers, extensions, pieces, slices, positions, swaps, edits, turns];
-    for part in values.into_iter().chain([laws as fn(&mut Checks), turn_laws]) {
+    let values =
+        [file_a_numbers, offsets, images, headers, reserved_bytes, extensions, pieces, slices, positions, swaps, edits, turns];
+    for part in values.into_iter().chain([laws as fn(&mut Checks), turn_laws, wrong_extenders]) {
         part(&mut checks);
     }
     println!("self-check: {} checks, {} failed", checks.done, checks.failed);

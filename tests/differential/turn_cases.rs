@@ -2,7 +2,7 @@
 //! seed.
 
 use crate::cases::{self, Call, Case, Other, Random};
-use crate::files::{extension, Header, EXTENSIONS, NO_EXTENSIONS, OFFSET_352};
+use crate::files::{extension, Header, NO_EXTENSIONS, OFFSET_352};
 use crate::memory::Where;
 use crate::rules::{self, Known, Order, DATATYPES, REGION_LIMIT};
 use crate::turn::{self, Turn};
@@ -146,12 +146,17 @@ fn every(number: u64) -> Case {
     let dims = &[3, 2, 4, 2, 1, 2, 3][..axes];
     let header = volume(random, order, pair, dims, datatype);
     let image_bytes = dims.iter().map(|&d| d as usize).product::<usize>() * bits as usize / 8;
-    let extended = [EXTENSIONS.to_vec(), extension(order, 32, 6, &random.bytes(24)), extension(order, 16, 4, &random.bytes(8))];
-    let private = [NO_EXTENSIONS.to_vec(), random.bytes(5)];
+    let first = random.pick(&[1, 1, 2, 255]);
+    let extended = [
+        cases::extender(random, first).to_vec(),
+        extension(order, 32, 6, &random.bytes(24)),
+        extension(order, 16, 4, &random.bytes(8)),
+    ];
+    let none = cases::extender(random, 0).to_vec();
     let region = match number % 3 {
         0 => extended.concat(),
-        1 => private.concat(),
-        _ => NO_EXTENSIONS.to_vec(),
+        1 => [none, random.bytes(5)].concat(),
+        _ => none,
     };
     let more = (number % 4) as usize * 5;
     let image = random.bytes(image_bytes + more);

@@ -92,7 +92,7 @@ fn row_by(row: [f32; 4], lengths: [u64; 3], turn: Turn, added: impl Fn(f32, f32,
 
 type Wrong = fn(&Asked) -> Left;
 
-const WRONG: [(&str, Wrong); 28] = [
+const WRONG: [(&str, Wrong); 29] = [
     ("the flags belong to the new axes", |asked| match asked.turn() {
         turn if turn.is_permutation() => asked.by(Turn { reversed: turn.back().shown(turn.reversed), ..turn }),
         turn => asked.by(turn),
@@ -169,6 +169,9 @@ const WRONG: [(&str, Wrong); 28] = [
     }),
     ("of dim_info only slice_dim becomes 0", |asked| asked.but(|_, left| left.rooms[0][39] = asked.file[39] & 0xcf)),
     ("slice_code is left", |asked| asked.but(|_, left| left.rooms[0][122] = asked.file[122])),
+    ("the extender's reserved bytes become zero", |asked| {
+        asked.but(|_, left| left.rooms[0][..asked.file.len()].iter_mut().skip(349).take(3).for_each(|byte| *byte = 0))
+    }),
     ("bytes after the image are dropped", |asked| {
         asked.but(|known, left| {
             let (room, end) = (known.pair as usize, (known.offset + known.image_bytes) as usize);
