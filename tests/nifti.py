@@ -7,7 +7,7 @@ import struct
 import sys
 
 SINGLE, PAIR = b"n+1\0", b"ni1\0"
-NONE, SOME = bytes([0, 0, 0, 0]), bytes([1, 0, 0, 0])    # the extender of a file without and with extensions
+NONE, SOME = bytes([0, 0, 0, 0]), bytes([1, 0, 0, 0])    # an extender without and with extensions, its reserved bytes zero
 
 
 def header(order="<", magic=SINGLE, dim=(2, 3, 2), datatype=4, bitpix=16, offset=352.0, sizeof_hdr=348):
