@@ -1,7 +1,8 @@
 /*
  * The numbers that the source documents state, and some that follow from them, asked of the library through its C interface and
  * printed, one line an answer; vectors.out has what they should be. Three stand elsewhere: document 004's slice table and the row
- * that shows the order of rounding in the program slice_table, and the record written back in the program header_copy.
+ * that shows the order of rounding in the program slice_table, and the record written back in the program header_copy. Last come
+ * files with reserved bytes in the extender (02-change-requests.md, P2), listed, edited, swapped and turned.
  */
 #include "../nifti.h"
 #include "vestumbral.h"
@@ -195,6 +196,83 @@ static void position(void)
     }
 }
 
+/* What an edit answered, vox_offset, and the buffer from the extender to 8 bytes past the longer of the old and the new file. */
+static void edited(const char *what, vestumbral_reply r, size_t old)
+{
+    size_t end = (r.length > old ? r.length : old) + 8;
+    printf("  %s: refusal %d at %d, length %d, vox_offset %08X,", what, (int)r.refusal, (int)r.place, (int)r.length,
+           get32(file + 108));
+    for (size_t i = 348; i < end; i++)
+        printf(i % 4 ? "%02X" : " %02X", file[i]);
+    printf("\n");
+}
+
+/*
+ * A file of two voxels with this extender and so many notes, or private bytes that look like them: 16 bytes, code 4, "old note". EE
+ * bytes follow it in the buffer. Answers its length.
+ */
+static size_t noted(int kind, const int extender[4], int notes)
+{
+    size_t at = 352;
+    start(kind, DIMS(3, 2, 1, 1), 2, 8, kind == PAIR ? 0 : 352 + 16 * notes);
+    memset(file + 348, 0xEE, sizeof file - 348);
+    for (int i = 0; i < 4; i++)
+        file[348 + i] = extender[i];
+    for (; notes > 0; notes--, at += 16) {
+        put32(file + at, 16);
+        put32(file + at + 4, 4);
+        memcpy(file + at + 8, "old note", 8);
+    }
+    if (kind == PAIR)
+        return at;
+    file[at] = 0xA1;
+    file[at + 1] = 0xA2;
+    return at + 2;
+}
+
+/* The file listed; appended to; its first note replaced; its notes removed one by one; swapped and then turned. */
+static void reserved(int kind, const int extender[4], int notes)
+{
+    static const uint8_t *const hello = (const uint8_t *)"hello";
+    static uint8_t out[sizeof file], image[2], out_image[2];
+    char what[64];
+    size_t length = noted(kind, extender, notes);
+    snprintf(what, sizeof what, "extender %d,%d,%d,%d", extender[0], extender[1], extender[2], extender[3]);
+    show(what, length);
+    for (int i = 0; i < notes; i++) {
+        vestumbral_extension x = vestumbral_extension_at(file, length, i);
+        printf("  extension %d: refusal %d, start %d size %d code %d\n", i, (int)x.refusal, (int)x.start, x.size, x.code);
+    }
+    edited("append", vestumbral_append(file, sizeof file, length, 6, hello, 5), length);
+    noted(kind, extender, notes);
+    edited("replace", vestumbral_replace(file, sizeof file, length, 0, 6, hello, 5), length);
+    noted(kind, extender, notes);
+    for (size_t old = length, i = 0; i == 0 || i < (size_t)notes; i++) {
+        vestumbral_reply r = vestumbral_remove(file, sizeof file, old, 0);
+        edited("remove", r, old);
+        old = r.length;
+    }
+    noted(kind, extender, notes);
+    vestumbral_reply r = vestumbral_swap(file, length, image, sizeof image);
+    printf("  swap: refusal %d, extender %d,%d,%d,%d\n", (int)r.refusal, file[348], file[349], file[350], file[351]);
+    vestumbral_turned t = vestumbral_turn(file, length, image, sizeof image, 1, 2, 3, 1, 0, 0, out, sizeof out, out_image, 2);
+    printf("  turn: refusal %d, extender %d,%d,%d,%d\n", (int)t.refusal, out[348], out[349], out[350], out[351]);
+}
+
+static void reserved_bytes(void)
+{
+    static const struct { int extender[4], notes; } rows[] = {
+        {{1, 0, 0, 7}, 1}, {{2, 9, 9, 9}, 2}, {{0, 1, 2, 3}, 1}, {{0, 1, 2, 3}, 0}};
+    for (int kind = SINGLE; kind <= PAIR; kind++)
+        for (size_t i = 0; i < sizeof rows / sizeof *rows; i++)
+            reserved(kind, rows[i].extender, rows[i].notes);
+    noted(PAIR, (const int[]){0xEE, 0xEE, 0xEE, 0xEE}, 0);
+    show("348 bytes", 348);
+    edited("append", vestumbral_append(file, sizeof file, 348, 6, (const uint8_t *)"hello", 5), 348);
+    for (size_t length = 349; length < 352; length++)
+        show("349 to 351 bytes", length);
+}
+
 int main(void)
 {
     file_a();
@@ -208,5 +286,6 @@ int main(void)
     append();
     swap();
     position();
+    reserved_bytes();
     return 0;
 }
