@@ -290,7 +290,7 @@ static void pair_edits(enum source source)
     memset(buffer, 0x33, length);
     header(buffer, 1, (const int[]){1, 5}, 2, 8, 0x80000000);
     CHECK(done(vestumbral_append(buffer, length, 348, 2, NULL, 0), 0, 368));
-    CHECK(buffer[111] == 0x80 && all(buffer + 108, 0, 3) && buffer[348] == 1 && buffer[368] == 0x33);
+    CHECK(buffer[111] == 0x80 && all(buffer + 108, 0, 3) && get32(buffer + 348) == 1 && buffer[368] == 0x33);
     for (uint64_t i = 1; i < 64; i++)
         CHECK(done(vestumbral_append(buffer, length, 352 + 16 * i, 2, buffer, 0), 0, 368 + 16 * i));
     CHECK(vestumbral_read(buffer, length).extensions == 64);
@@ -303,6 +303,80 @@ static void pair_edits(enum source source)
     CHECK(refused(vestumbral_append(buffer, length, 353, 2, NULL, 0), 20));
     REFUSED(vestumbral_read(buffer, 350), 12, 348);
     give_back(source, buffer, length);
+}
+
+/* A pair's header file of 348 bytes in a buffer with other bytes behind it: 1,0,0,0 at an exact fit, and one byte short of it. */
+static void bare_pairs(enum source source)
+{
+    static const uint8_t fresh[20] = {1, 0, 0, 0, 16, 0, 0, 0, 6, 0, 0, 0, 'h', 'e', 'l', 'l', 'o', 0, 0, 0};
+    for (size_t length = 348; length <= 369; length++) {
+        uint8_t *buffer = take(source, length), before[369];
+        memset(buffer, 0xee, length);
+        header(buffer, 1, (const int[]){1, 5}, 2, 8, 0);
+        memcpy(before, buffer, length);
+        vestumbral_reply reply = vestumbral_append(buffer, length, 348, 6, (const uint8_t *)"hello", 5);
+        if (length < 368) {
+            CHECK(refused(reply, 22) && memcmp(buffer, before, length) == 0);
+        } else {
+            CHECK(done(reply, 0, 368) && memcmp(buffer, before, 348) == 0 && memcmp(buffer + 348, fresh, 20) == 0);
+            CHECK(all(buffer + 368, 0xee, length - 368));
+            CHECK(done(vestumbral_remove(buffer, length, 368, 0), 0, 352) && all(buffer + 348, 0, 20));
+        }
+        give_back(source, buffer, length);
+    }
+}
+
+static int extender_is(const uint8_t *file, uint8_t first, const uint8_t *reserved)
+{
+    return file[348] == first && memcmp(file + 349, reserved, 3) == 0;
+}
+
+/* The reserved bytes of the extender in memory of exactly the file's length: no call judges them, and all keep them. */
+static void reserved_bytes(enum source source)
+{
+    static const uint8_t extenders[][4] = {{1, 0, 0, 7}, {2, 9, 9, 9}, {255, 255, 255, 255}};
+    for (size_t i = 0; i < sizeof extenders / sizeof *extenders; i++) {
+        uint8_t first = extenders[i][0], *file = take(source, 352), *out = take(source, 352), image[5] = {0}, out_image[5];
+        const uint8_t *reserved = extenders[i] + 1;
+        header(file, 1, (const int[]){3, 5, 1, 1}, 2, 8, 0);
+        memcpy(file + 348, extenders[i], 4);
+        REFUSED(vestumbral_read(file, 352), 13, 352);
+        for (size_t length = 349; length < 352; length++) {
+            uint8_t *cut = take(source, length);
+            memcpy(cut, file, length);
+            REFUSED(vestumbral_read(cut, length), 12, 348);
+            as_whole(fed(vestumbral_pieces_start(), cut, length), cut, length, 0);
+            give_back(source, cut, length);
+        }
+        file[348] = 0;
+        vestumbral_file read = vestumbral_read(file, 352);
+        CHECK(read.refusal == 0 && read.extensions == 0);
+        as_whole(fed(vestumbral_pieces_start(), file, 352), file, 352, 0);
+        CHECK(turned(vestumbral_turn(file, 352, image, 5, 1, 2, 3, 1, 0, 0, out, 352, out_image, 5), 352, 5));
+        CHECK(extender_is(out, 0, reserved));
+        CHECK(done(vestumbral_swap(file, 352, image, 5), 0, 0) && extender_is(file, 0, reserved));
+
+        uint8_t *buffer = take(source, 384);
+        memcpy(buffer, file, 352);
+        CHECK(done(vestumbral_append(buffer, 384, 352, 4, NULL, 0), 0, 368) && extender_is(buffer, 1, reserved));
+        buffer[348] = first;
+        CHECK(done(vestumbral_append(buffer, 384, 368, 4, NULL, 0), 0, 384) && extender_is(buffer, 1, reserved));
+        buffer[348] = first;
+        CHECK(vestumbral_read(buffer, 384).extensions == 2 && vestumbral_extension_at(buffer, 384, 1).start == 368);
+        as_whole(fed(vestumbral_pieces_start(), buffer, 384), buffer, 384, 1);
+        CHECK(refused(vestumbral_append(buffer, 384, 384, 4, NULL, 0), 22) && extender_is(buffer, first, reserved));
+        CHECK(done(vestumbral_replace(buffer, 384, 384, 1, 6, image, 5), 0, 384) && extender_is(buffer, 1, reserved));
+        buffer[348] = first;
+        CHECK(done(vestumbral_remove(buffer, 384, 384, 1), 0, 368) && extender_is(buffer, 1, reserved));
+        buffer[348] = 0;
+        CHECK(refused(vestumbral_append(buffer, 384, 368, 4, NULL, 0), 20) && extender_is(buffer, 0, reserved));
+        buffer[348] = first;
+        CHECK(done(vestumbral_remove(buffer, 384, 368, 0), 0, 352) && extender_is(buffer, 0, reserved));
+        CHECK(memcmp(buffer, file, 352) == 0 && all(buffer + 352, 0, 32));
+        give_back(source, buffer, 384);
+        give_back(source, file, 352);
+        give_back(source, out, 352);
+    }
 }
 
 static void swaps(enum source source)
@@ -621,6 +695,8 @@ int main(void)
         payloads(source);
         edits(source);
         pair_edits(source);
+        bare_pairs(source);
+        reserved_bytes(source);
         swaps(source);
         slices(source);
         positions(source);

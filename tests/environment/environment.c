@@ -114,7 +114,7 @@ static size_t start(int pair, uint32_t offset)
     }
     if (pair)
         return 348;
-    put32(buffer + 348, 0);
+    put32(buffer + 348, 0x09090900); /* no extensions, and three reserved bytes */
     return 352 + VOXELS;
 }
 
