@@ -602,8 +602,8 @@ static void compare(void)
     enum { FILES = 200000 };
     static const int small[4] = {3, 3, 2, 4};
     static const uint16_t looked[] = {0, 1, 39, 40, 41, 42, 43, 44, 46, 48, 54, 70, 71, 72, 73, 74, 108, 109, 110, 111, 120,
-                                      121, 122, 132, 254, 255, 280, 283, 344, 345, 347, 348, 349, 351, 352, 353, 356, 359,
-                                      384, 388, 391};
+                                      121, 122, 132, 254, 255, 280, 283, 344, 345, 347, 348, 349, 350, 351, 352, 353, 356,
+                                      359, 384, 388, 391};
     sink = 0;
     for (int file = 0; file < FILES; file++) {
         size_t length = make(chance(4), small, 4, 16);
@@ -612,6 +612,12 @@ static void compare(void)
             put32(work + 108, float_bits(chance(64)));
             length = 352 + 32 * chance(4) * work[348];
             length -= chance(2) && length == 352 ? 4 : 0;
+        }
+        if (chance(2)) {
+            /* reserved bytes, and another first byte that says the same; or what follows a file of 348 bytes in its buffer */
+            work[348] = length == 348 ? chance(256) : work[348] ? 1 + chance(255) : 0;
+            for (int i = 349; i < 352; i++)
+                work[i] = chance(256);
         }
         if (chance(2))
             vestumbral_swap(work, length, NULL, 0);

@@ -1,7 +1,7 @@
 /*
- * The library's calls written plainly in C, for the benchmark to time the library beside: each judges rules 1 to 15 of 01-scope.md
- * in the order of their numbers, then its own, and answers the number and the place of the first that holds. Nothing is proved of
- * them; the benchmark stops where an answer differs from the library's.
+ * The library's calls written plainly in C, for the benchmark to time the library beside: each judges rules 1 to 15 in the order of
+ * their numbers, then its own, and answers the number and the place of the first that holds. Nothing is proved of them; the
+ * benchmark stops where an answer differs from the library's.
  */
 #include "plain_rules.h"
 
@@ -174,7 +174,8 @@ vestumbral_reply plain_swap(uint8_t *file, size_t file_len, uint8_t *image, size
 
 /*
  * Puts `size` bytes in the place of `old` ones at `at`, in a file that was judged: what follows slides along, freed bytes become
- * zero, and the extender and a single file's vox_offset are set anew. The code and the payload are stored where size is not 0.
+ * zero, and the extender's first byte and a single file's vox_offset are set anew. A file of 348 bytes gains three zeros after that
+ * byte. The code and the payload are stored where size is not 0.
  */
 static vestumbral_reply splice(uint8_t *buffer, uint64_t room, uint64_t length, const struct outline *o, uint64_t at, uint64_t old,
                                uint64_t size, int32_t code, const uint8_t *payload, size_t payload_len)
@@ -196,7 +197,9 @@ static vestumbral_reply splice(uint8_t *buffer, uint64_t room, uint64_t length, 
             memcpy(buffer + at + 8, payload, payload_len);
         memset(buffer + at + 8 + payload_len, 0, size - 8 - payload_len);
     }
-    put32(buffer + HEADER, false, end > FIRST);
+    if (length < FIRST)
+        memset(buffer + HEADER, 0, FIRST - HEADER);
+    buffer[HEADER] = end > FIRST;
     if (!o->pair) {
         float offset = end;
         uint32_t bits;

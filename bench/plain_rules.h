@@ -1,6 +1,6 @@
 /*
- * Rules 1 to 15 of 01-scope.md in plain C, for plain.c, plain_pieces.c and plain_turn.c: judged in the order of their numbers, with
- * the number and the place of the first that holds.
+ * Rules 1 to 15 of 01-scope.md and 02-change-requests.md in plain C, for plain.c, plain_pieces.c and plain_turn.c: judged in the
+ * order of their numbers, with the number and the place of the first that holds.
  */
 #ifndef BENCH_PLAIN_RULES_H
 #define BENCH_PLAIN_RULES_H
@@ -149,17 +149,12 @@ static inline bool judge_front(const uint8_t *file, uint64_t length, struct outl
     }
     if (!o->pair && length < o->offset + o->bytes)
         return refuse(o, 11, 108);
-    uint32_t extender = 0;
-    if (length >= FIRST)
-        extender = get32(file + HEADER, false);
-    else if (length > HEADER)
-        return refuse(o, 12, 348);
-    if (extender > 1)
+    if (length > HEADER && length < FIRST)
         return refuse(o, 12, 348);
     o->refusal = o->place = 0;
     o->extensions = 0;
     o->end = o->pair ? length : o->offset;
-    o->extended = extender;
+    o->extended = length >= FIRST && file[HEADER] != 0;
     return true;
 }
 
