@@ -41,7 +41,7 @@
  *       header file longer than that                                                            108
  *   10  more than 1099511627776 image bytes                                                     40
  *   11  single: file shorter than vox_offset + image bytes                                      108
- *   12  pair of 349..351 bytes, or the four bytes at 348 are neither 0,0,0,0 nor 1,0,0,0        348
+ *   12  pair of 349..351 bytes                                                                  348
  *   13  an extension's size is not a positive multiple of 16, or fewer than 16 bytes are left,
  *       or it passes the region's end                                                           its start
  *   14  an extension's code is negative                                                         its start + 4
@@ -50,7 +50,8 @@
  *   17  a voxel or slice index outside its axis                                                 0
  *   18  no extension with that number; the first is 0                                           0
  *   19  the code offered is negative                                                            0
- *   20  append where the extender is zero and bytes already follow 352 in the region            0
+ *   20  append where the extender's first byte is zero and bytes already follow 352 in the
+ *       region                                                                                  0
  *   21  the edited file would have 65 extensions, or its region would end past 134217728        0
  *   22  the result is longer than the buffer; of a turn, than either buffer                     0
  *   23  no position; of a turn, sform_code is above 0 and a new srow number is not finite       0
@@ -59,7 +60,12 @@
  *   29  fewer than three dims                                                                   0
  *   30  the three axes named are not 1, 2 and 3, each once                                      0
  *
- * The extension region begins at 352. It ends at vox_offset in a single file and at the file's end in a pair's header file.
+ * The extender is the four bytes at 348. Its first byte says whether extensions follow: zero for none, anything else for at least
+ * one. The other three are reserved: no call judges them, and every call that writes keeps them. A pair's header file of 348 bytes
+ * is read as one with the extender 0,0,0,0.
+ *
+ * The extension region begins at 352. It ends at vox_offset in a single file and at the file's end in a pair's header file. Without
+ * extensions its bytes are private and are not read.
  */
 #ifndef VESTUMBRAL_H
 #define VESTUMBRAL_H
@@ -166,8 +172,8 @@ vestumbral_position vestumbral_position_of(const uint8_t *file, size_t file_len,
 
 /*
  * Turns the file to the other byte order in place: every number of the header, each extension's size and code, and the image, unit
- * by unit. Texts, payloads, private bytes, an image file's front and bytes after the image stay. Refusals 1..15, then 16 for a
- * pair.
+ * by unit. Texts, the extender, payloads, private bytes, an image file's front and bytes after the image stay. Refusals 1..15, then
+ * 16 for a pair.
  */
 vestumbral_reply vestumbral_swap(uint8_t *file, size_t file_len, uint8_t *image, size_t image_len);
 
@@ -175,6 +181,9 @@ vestumbral_reply vestumbral_swap(uint8_t *file, size_t file_len, uint8_t *image,
  * The three edits work in place. The file is the first file_len bytes of the buffer. `length` answers its new length. In a single
  * file vox_offset is set anew and the bytes from it to the file's end move along; in a pair vox_offset stays. When the file
  * shrinks, the freed bytes become zero. Bytes past both lengths keep their content.
+ *
+ * The extender's first byte becomes 1, or 0 where no extension is left, and its three reserved bytes are kept. A pair's header file
+ * of 348 bytes gains 1,0,0,0, whatever the buffer has there.
  *
  * A stored extension takes the least multiple of 16 that is at least payload_len + 8 bytes; the spare ones are zero. So an append
  * makes the file longer by that much, and by 4 more where a pair's header file has 348 bytes.
@@ -190,7 +199,7 @@ vestumbral_reply vestumbral_append(uint8_t *buffer, size_t buffer_len, uint64_t 
 vestumbral_reply vestumbral_replace(uint8_t *buffer, size_t buffer_len, uint64_t file_len, uint64_t number,
                                     int32_t code, const uint8_t *payload, size_t payload_len);
 
-/* Takes extension `number` out. Where none is left the extender becomes zero and the region ends at 352. 18. */
+/* Takes extension `number` out. Where none is left the extender's first byte becomes 0 and the region ends at 352. 18. */
 vestumbral_reply vestumbral_remove(uint8_t *buffer, size_t buffer_len, uint64_t file_len, uint64_t number);
 
 /*
@@ -221,7 +230,7 @@ vestumbral_extension vestumbral_pieces_extension_at(vestumbral_pieces pieces, ui
  * dim_info and slice_code become 0, by any turn. Where sform_code is above 0, a reversed axis of n voxels has column x (n - 1)
  * added to the shift of each srow row, for the old axes 1 to 3 in this order, in binary32, the product and the sum each rounded;
  * then the columns of the reversed axes are negated, and then the columns permuted. Where it is not, the rows stay as they are. All
- * else is copied: extensions, private bytes, an image file's front and bytes after the image.
+ * else is copied: the extender, extensions, private bytes, an image file's front and bytes after the image.
  *
  * Refusals 1..15, 16 for a pair, 29, 30, 23, then 22: `out` is shorter than `file`, or for a pair `out_image` than `image`.
  */
