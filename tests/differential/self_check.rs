@@ -648,7 +648,7 @@ fn laws(checks: &mut Checks) {
         reserved_law(checks, file, &image, &other);
         checks.holds("the voxels fill the image", voxels_fill(&known, file, &image));
         let buffer = [file.clone(), vec![0; 64]].concat();
-        let Ok((whole, length)) = edit(&buffer, file.len() as u64, &Edit::Append { code: 4, payload: b"a note of 19 bytes" })
+        let Ok((whole, length)) = edit(&buffer, file.len() as u64, &Edit::Append { code: 4, payload: b"a note of 18 bytes" })
         else {
             continue;
         };
