@@ -17,6 +17,7 @@ use Rattle.header.specs.declared.Kind.{Kind}
 use Rattle.header.specs.declared.Kind.the-variants.{Single, Pair}
 use Rattle.rules.specs.declared.Image.{Image}
 use Rattle.rules.specs.Rules.{imageOf, shapeOfRecord, imageCut, holder}
+use Rattle.layout.specs.File.{extenderOf}
 use Rattle.reader.specs.declared.Reading.{Reading}
 use Rattle.reader.specs.Reading.{readingOf, IsAccepted}
 use Rattle.reader.proofs.File.{record-image}
@@ -27,7 +28,7 @@ use Rattle.voxel.specs.Voxel.{lengthsOf, voxelBytes, imageRows}
 use Rattle.by_file.specs.Files.{locatedOf}
 use Rattle.by_file.proofs.Voxels.{accepted-located, voxel-bytes-are}
 use Rattle.change.specs.declared.Change.{Change}
-use Rattle.edit_plan.specs.Fresh.{extensionList, editedList, endFor, freshOf}
+use Rattle.edit_plan.specs.Fresh.{extensionList, editedList, extenderFor, endFor, freshOf}
 use Rattle.edit.specs.declared.NewFile.{NewFile}
 use Rattle.edit.specs.declared.Edited.the-variants.{Done}
 use Rattle.edit.specs.Outcome.{outcomeOf, editAnswer, bufferAfter}
@@ -151,6 +152,8 @@ pub record DemandThree (l : List ℕ) (len : ℕ) (change : Change) (code : ℤ)
   pub list : extensionList (take (new .length) b) ≡ editedList (take len l) change code p
   pub single : readingOf (take len l) .header .kind ≡ Single → Moved (take len l) (take (new .length) b)
   pub pair : readingOf (take len l) .header .kind ≡ Pair → take 348 (take (new .length) b) ≡ take 348 (take len l)
+  -- "An edit writes the first byte as 1 or 0 by the resulting list, and keeps the three" (02-change-requests.md, P2)
+  pub extender : extenderOf (take (new .length) b) ≡ extenderFor (take len l) (editedList (take len l) change code p)
   -- "Ask for any voxel before and after, with the same seven indexes and, for a pair, the same image file, whatever these are."
   pub voxels : (image index : List ℕ) → SameVoxel (take len l) (take (new .length) b) image index
   -- "The voxel's place is the same in a pair"
@@ -179,6 +182,7 @@ demand-three l len change code p new fits e =
       list = r .list;
       single = r .single;
       pair = r .pair;
+      extender = r .extender;
       voxels = voxel-same f g xs (d .accepted) r;
       pair-voxels = λ k image index. pair-located f g xs (d .accepted) r image index k;
     }
