@@ -3,7 +3,7 @@
 
 use crate::cases::{Call, Case};
 use crate::rules::{self, Known, Refusal, BASE};
-use crate::{by_rules, Outcome};
+use crate::{by_rules, call_number, Outcome, CALLS};
 
 /// What the four bytes at 348 are and, after a first byte of 0, whether private bytes follow: x stands for reserved bytes that are
 /// not all zero, n for a first byte above 1.
@@ -12,15 +12,18 @@ const EXTENDERS: [&str; 8] =
 /// The pair's header file that has no extender.
 const BARE: usize = 2 * EXTENDERS.len();
 
-const ENDS: [&str; 14] = [
-    "read", "extension", "voxel", "slice", "position", "swap", "append", "append 20", "replace", "remove", "last out", "pieces",
-    "pieces_ext", "turn",
-];
-const APPENDED: usize = 6;
-const DENIED: usize = 7;
-const EMPTIED: usize = 10;
-pub const IN_PIECES: usize = 11;
-pub const EXTENSION_IN_PIECES: usize = 12;
+/// How a call ended: done, by its number; an append that 20 refuses; a removal that leaves no extension.
+const DENIED: usize = CALLS.len();
+const EMPTIED: usize = CALLS.len() + 1;
+const ENDS: usize = CALLS.len() + 2;
+
+fn end_name(end: usize) -> &'static str {
+    match end {
+        DENIED => "append 20",
+        EMPTIED => "last out",
+        _ => CALLS[end],
+    }
+}
 
 fn class(file: &[u8], known: &Known) -> usize {
     let Some(&[first, a, b, c]) = file.get(348..352) else {
@@ -45,7 +48,9 @@ fn name(class: usize) -> String {
 fn possible(end: usize, class: usize) -> bool {
     let extended = class != BARE && class % EXTENDERS.len() >= 4;
     let private = class != BARE && matches!(class % EXTENDERS.len(), 1 | 3);
-    match ENDS[end] {
+    match end_name(end) {
+        // a piece has no extender
+        "take" => false,
         "extension" | "replace" | "remove" | "last out" | "pieces_ext" => extended,
         "append" => !private,
         "append 20" => private,
@@ -66,7 +71,7 @@ fn file_of(case: &Case) -> Option<&[u8]> {
 /// How often each was reached.
 #[derive(Default)]
 pub struct Reached {
-    done: [[u64; ENDS.len()]; BARE + 1],
+    done: [[u64; ENDS]; BARE + 1],
     /// Rule 12 for 349, 350 and 351 bytes: those after 348 are zeros, or not.
     cut: [[u64; 2]; 3],
     /// An append to 348 bytes where the buffer had other bytes than zeros for the reserved ones.
@@ -94,23 +99,14 @@ impl Reached {
             Err(_) => return,
         };
         let end = match case.call {
-            Call::Read => 0,
-            Call::ExtensionAt { .. } => 1,
-            Call::Voxel { .. } => 2,
-            Call::SliceAt { .. } => 3,
-            Call::PositionOf { .. } => 4,
-            Call::Swap => 5,
             Call::Append { .. } if refusal == 20 => DENIED,
-            Call::Append { .. } => APPENDED,
-            Call::Replace { .. } => 8,
             Call::Remove { .. } if known.spans.len() == 1 => EMPTIED,
-            Call::Remove { .. } => 9,
-            Call::Turn { .. } => 13,
+            call => call_number(&call),
         };
         if refusal == 0 || end == DENIED {
             self.add(end, file, &known);
         }
-        if refusal == 0 && end == APPENDED && file.len() == 348 && case.main[349..352] != [0; 3] {
+        if refusal == 0 && matches!(case.call, Call::Append { .. }) && file.len() == 348 && case.main[349..352] != [0; 3] {
             self.over_old += 1;
         }
     }
@@ -138,10 +134,10 @@ impl Reached {
     }
 
     pub fn print(&self) {
-        println!("{:>22}  done by: {}", "extender", ENDS.map(|end| format!("{end:>11}")).concat());
+        println!("{:>22}  done by: {}", "extender", (0..ENDS).map(|end| format!("{:>11}", end_name(end))).collect::<String>());
         for (class, row) in self.done.iter().enumerate() {
             let cell = |end: usize| if possible(end, class) { format!("{:>11}", row[end]) } else { format!("{:>11}", "-") };
-            println!("{:>22}           {}", name(class), (0..ENDS.len()).map(cell).collect::<String>());
+            println!("{:>22}           {}", name(class), (0..ENDS).map(cell).collect::<String>());
         }
         println!("12 of 349, 350 and 351 bytes, the last of them zeros or not: {:?}", self.cut);
         println!("348 bytes appended to, with other bytes after them in the buffer: {}", self.over_old);
@@ -150,7 +146,7 @@ impl Reached {
 
     /// What was never reached.
     pub fn missing(&self) -> Vec<String> {
-        let cells = (0..=BARE).flat_map(|class| (0..ENDS.len()).map(move |end| (class, end)));
+        let cells = (0..=BARE).flat_map(|class| (0..ENDS).map(move |end| (class, end)));
         let done = cells.filter(|&(class, end)| possible(end, class) && self.done[class][end] == 0);
         let others = [
             (self.cut.as_flattened().contains(&0), "12 of a length, with zeros and with others"),
@@ -158,6 +154,6 @@ impl Reached {
             (self.as_before.contains(&0), "a file or an edit as by the base"),
         ];
         let others = others.into_iter().filter(|other| other.0).map(|other| other.1.to_string());
-        done.map(|(class, end)| format!("{} by {}", name(class), ENDS[end])).chain(others).collect()
+        done.map(|(class, end)| format!("{} by {}", name(class), end_name(end))).chain(others).collect()
     }
 }

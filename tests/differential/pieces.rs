@@ -2,7 +2,6 @@
 //! with the rules and with the library's whole-file calls, both on the joined bytes of the pieces so far.
 
 use crate::cases::{self, Feeding, Piece};
-use crate::extenders::{EXTENSION_IN_PIECES, IN_PIECES};
 use crate::library::*;
 use crate::memory::{Area, Tall, Where};
 use crate::rules::{self, REGION, REGION_LIMIT, TOTAL};
@@ -70,7 +69,7 @@ impl Reader {
         let known = rules::read(joined);
         let file = file_answer(&known);
         counts.add(PIECES_FILE, file.refusal);
-        known.iter().for_each(|known| counts.extenders.add(IN_PIECES, joined, known));
+        known.iter().for_each(|known| counts.extenders.add(PIECES_FILE, joined, known));
         same(length, file, unsafe { vestumbral_read(from, length) }, unsafe { vestumbral_pieces_file(self.state) })?;
         let count = file.extensions as u64;
         let listed = if every { 0..count } else { count.saturating_sub(1)..count };
@@ -78,7 +77,7 @@ impl Reader {
             let extension = extension_answer(known.as_ref().map_err(|no| *no).and_then(|known| rules::numbered(known, number)));
             counts.add(PIECES_EXTENSION, extension.refusal);
             if let (Ok(known), 0) = (&known, extension.refusal) {
-                counts.extenders.add(EXTENSION_IN_PIECES, joined, known);
+                counts.extenders.add(PIECES_EXTENSION, joined, known);
             }
             let by_file = unsafe { vestumbral_extension_at(from, length, number) };
             same(length, extension, by_file, unsafe { vestumbral_pieces_extension_at(self.state, number) })?;
