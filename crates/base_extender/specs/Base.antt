@@ -29,7 +29,7 @@ use Rattle.edit.specs.Outcome.{Outcome, fresh, refused}
 abbrev pub baseExtender : List ℕ → Bool
 baseExtender f = baseNone f || baseSome f
 
--- rules 1 to 12. "12 | pair of length 349..351, or an extender neither 0,0,0,0 nor 1,0,0,0"
+-- rules 1 to 12. "12 | pair of length 349..351, or the four bytes at 348 are neither 0,0,0,0 nor 1,0,0,0"
 abbrev pub baseRows : List ℕ → List Row
 baseRows f =
     headRows f (length f)
