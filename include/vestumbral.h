@@ -20,8 +20,8 @@
  *   - vestumbral_slice_at, vestumbral_position_of and, of a file whose sform_code is above 0, vestumbral_turn compute in binary32
  *     and are called in the default floating-point state: round to nearest, no exception trapped, neither flush-to-zero nor
  *     denormals-are-zero (a program linked with -ffast-math starts with both). In another state a time, a position or a turned srow
- *     number may be another number, and so may what hangs on it: a slice's state and refusal 23. Read, extension_at, voxel, swap,
- *     the edits, the calls for pieces and any other turn do not depend on that state.
+ *     number may be another number, and so may what hangs on it: a slice's state and refusal 23. Read, extension_at, voxel,
+ *     voxel_in, swap, the edits, the calls for pieces and any other turn do not depend on that state.
  *   - The stack has room: a turn takes some 72 KiB of it, every other call less than 8.
  *
  * The refusals. They are tried in the order of their numbers, but 24 and 25 before anything else by the calls that give them, and
@@ -57,6 +57,8 @@
  *   23  no position; of a turn, sform_code is above 0 and a new srow number is not finite       0
  *   24  the stated file length is above the buffer's length                                     0
  *   25  a piece would make the file longer than 2199023255552 bytes                             0
+ *   26  a stored size is wrong: by data_bytes and step the voxel has no byte, data_bytes is
+ *       above 1099511627776, or the voxel ends past data_bytes                                  0
  *   29  fewer than three dims                                                                   0
  *   30  the three axes named are not 1, 2 and 3, each once                                      0
  *
@@ -73,11 +75,14 @@
 #include <stddef.h>
 #include <stdint.h>
 
+/* Counts up by one each time a struct of this header grows. A program is compiled against the header of the archive that it links. */
+#define VESTUMBRAL_INTERFACE 2
+
 #ifdef __cplusplus
 extern "C" {
 #endif
 
-/* The answer of voxel, swap, append, replace and remove. */
+/* The answer of voxel, voxel_in, swap, append, replace and remove. */
 typedef struct {
     uint64_t refusal;     /* 0: done; else a number of the table */
     uint64_t place;       /* of a refusal its place; of a voxel its place; else 0 */
@@ -94,6 +99,8 @@ typedef struct {
     int16_t  dim[8];      /* dim[0] is the number of axes; entries after dim[dim[0]] are as stored */
     int16_t  datatype, bitpix;
     uint32_t extensions;  /* how many, 0..64 */
+    uint64_t step[7];     /* how many bytes on the next voxel along axis 1..7 is: bitpix / 8 times the lengths of the axes before it; of
+                           * an axis after dim[0] data_bytes */
 } vestumbral_file;
 
 /* One extension. On a refusal start, size and code are 0. */
@@ -156,6 +163,17 @@ vestumbral_extension vestumbral_extension_at(const uint8_t *file, size_t file_le
  */
 vestumbral_reply vestumbral_voxel(const uint8_t *file, size_t file_len, const uint8_t *image, size_t image_len,
                                   uint64_t i1, uint64_t i2, uint64_t i3, uint64_t i4, uint64_t i5, uint64_t i6, uint64_t i7);
+
+/*
+ * The same voxel of a file that was read before, by what vestumbral_read or vestumbral_pieces_file answered: the file is not read
+ * again and no dims are multiplied, the place is data_offset + i1 x step[0] + .. + i7 x step[6]. image_len is the length of a pair's
+ * image file; for a single file it is not looked at. Of an answer of these calls it answers what vestumbral_voxel answers of the
+ * file. Any other struct has an answer too, without wrap: a place that it answers is inside data_bytes.
+ *
+ * Refusals: where file.refusal is not 0 that and file.place. Then 2 (dim[0] is not in 1..7), 9 (data_offset), 16 for a pair, 17, 26.
+ */
+vestumbral_reply vestumbral_voxel_in(vestumbral_file file, uint64_t image_len,
+                                     uint64_t i1, uint64_t i2, uint64_t i3, uint64_t i4, uint64_t i5, uint64_t i6, uint64_t i7);
 
 /*
  * When slice `slice` of the slice axis was acquired. Refusals 1..15, then 17, which is given only where timing is stated; where it

@@ -74,6 +74,7 @@ shownFile h i =
       datatype = h .intent .datatype;
       bitpix = h .intent .bitpix;
       extensions = h .count;
+      step = h .sizes .steps;
     }
 
 abbrev pub refusedFile : Refusal → FileAnswer
@@ -89,6 +90,7 @@ refusedFile r =
       datatype = pos 0;
       bitpix = pos 0;
       extensions = 0;
+      step = replicate 7 0;
     }
 
 unfoldable pub fileAnswer : Reading → FileAnswer

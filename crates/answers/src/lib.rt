@@ -39,6 +39,7 @@ pub struct FileAnswer {
     pub datatype: i16,
     pub bitpix: i16,
     pub extensions: u32,
+    pub step: [u64; 7],
 }
 
 // One extension.
@@ -95,6 +96,7 @@ pub fn refused_file(r: Refusal) -> FileAnswer
         datatype: 0,
         bitpix: 0,
         extensions: 0,
+        step: [0u64; 7],
     }
 }
 
@@ -116,7 +118,7 @@ pub fn is_pair(kind: Kind) -> u32
     }
 }
 
-// An accepted file: what its outline has, and three fields beside it, so that no record is made.
+// An accepted file: what its outline has, three fields beside it and the steps that they give, so that no record is made.
 pub fn shown_file(file: &[u8], outline: Outline) -> FileAnswer
     requires { ⌜ outlineOf 0 (now file) ≡ Outlined.Shown outline ⌝ }
     ensures { λ a. ⌜ a ≡ fileAnswer (readingOf (now (file .entry))) ⌝ }
@@ -126,6 +128,10 @@ pub fn shown_file(file: &[u8], outline: Outline) -> FileAnswer
     let kind = layout.kind;
     let image = layout.image;
     let count = outline.count as u32;
+    let dim = header::dims(file, order);
+    let bitpix = field::read_i16(file, 72, order);
+    let sizes = sizes::sizes_in(dim, bitpix);
+    let step = sizes.steps;
     FileAnswer {
         refusal: 0,
         place: 0,
@@ -133,10 +139,11 @@ pub fn shown_file(file: &[u8], outline: Outline) -> FileAnswer
         data_bytes: image.bytes,
         big_endian: big_endian(order),
         pair: is_pair(kind),
-        dim: header::dims(file, order),
+        dim,
         datatype: field::read_i16(file, 70, order),
-        bitpix: field::read_i16(file, 72, order),
+        bitpix,
         extensions: count,
+        step,
     }
 }
 

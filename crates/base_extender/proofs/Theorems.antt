@@ -18,11 +18,12 @@ use Rattle.extension.specs.Pieces.{pieces}
 use Rattle.rules.specs.Rules.{fieldRows, imageOf, cutShort}
 use borrow.Author.Tests.{not-false}
 use Rattle.rules.proofs.Passed.{neither}
-use Rattle.layout.specs.File.{orderOf, sameBytes, kindOf, headRows, shapeOf, extenderOf, saysSome, hasExtensions, reservedOf}
+use Rattle.number.specs.Same.{sameNumbers}
+use Rattle.number.proofs.Same.{same-is}
+use Rattle.layout.specs.File.{orderOf, kindOf, headRows, shapeOf, extenderOf, saysSome, hasExtensions, reservedOf}
 use Rattle.layout.specs.File.{baseNone, baseSome, cutExtender, fileRows, endOf}
 use Rattle.reader.specs.declared.Reading.{Reading}
 use Rattle.reader.specs.Reading.{judgement, readingBy, readingOf}
-use Rattle.reader.proofs.File.{same-is}
 use Rattle.change.specs.declared.Change.{Change}
 use Rattle.change.specs.declared.Change.the-variants.{Append, Replace, Remove}
 use Rattle.change.specs.Change.{missingIn, offersNegative}
@@ -41,12 +42,12 @@ record Passes (f : List ℕ) : Type 0 where
   writes : (xs : List (List ℕ)) → extenderFor f xs ≡ baseExtenderFor xs
 
 passes-by : (f : List ℕ) (first : ℕ) → extenderOf f ≡ first ∷ 0 ∷ 0 ∷ 0 ∷ []
-    → sameBytes (first ∷ 0 ∷ 0 ∷ 0 ∷ []) (1 ∷ 0 ∷ 0 ∷ 0 ∷ []) ≡ saysSome (first ∷ 0 ∷ 0 ∷ 0 ∷ []) → Passes f
+    → sameNumbers (first ∷ 0 ∷ 0 ∷ 0 ∷ []) (1 ∷ 0 ∷ 0 ∷ 0 ∷ []) ≡ saysSome (first ∷ 0 ∷ 0 ∷ 0 ∷ []) → Passes f
 unfolding hasExtensions
 passes-by f first e s =
     let r : reservedOf f ≡ 0 ∷ 0 ∷ 0 ∷ [] = ap (drop 1) e in
     record {
-      says = ap (λ (x : List ℕ). sameBytes x (1 ∷ 0 ∷ 0 ∷ 0 ∷ [])) e ∙ s ∙ sym (ap saysSome e);
+      says = ap (λ (x : List ℕ). sameNumbers x (1 ∷ 0 ∷ 0 ∷ 0 ∷ [])) e ∙ s ∙ sym (ap saysSome e);
       writes = λ xs. ap (λ (x : List ℕ). firstByteFor xs ∷ x) r ∙ by xs;
     }
   where

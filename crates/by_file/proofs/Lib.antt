@@ -2,3 +2,4 @@
 mod Shown
 mod Indexes
 pub mod Voxels
+pub mod Steps

@@ -1,28 +1,30 @@
--- What the outline of an accepted file says of a voxel: the fields that it is located by are its record's, and pass rules 5 to 10.
-use Prim.Native.Nat.{ℕ}
-use mathlib.Core.Path.{_≡_, refl, ap, _∙_}
+-- What the outline of an accepted file says of a voxel: the fields that it is located by are its record's.
+use Prim.Native.Nat.{ℕ, _≤_}
+use mathlib.Core.Path.{_≡_, ap, sym, _∙_}
 use mathlib.Core.Bool.{true, false}
 use mathlib.Core.List.{List}
-use Rattle.field.specs.Numbers.{i16At, i16sAt}
-use Rattle.refusal.specs.declared.Verdict.the-variants.{Accepted}
-use Rattle.refusal.specs.Table.{refusal, verdict}
-use Rattle.refusal.proofs.Rows.{accepted-clear, clear-accepted}
+use Rattle.refusal.specs.Table.{refusal}
+use Rattle.offset.specs.Offset.{offsetLimit}
+use Rattle.grid.specs.Grid.{within}
+use Rattle.grid.specs.Axes.{imageLimit}
+use Rattle.grid.specs.Sizes.{sizesBy, bytesBefore}
 use Rattle.header.specs.declared.Header.{Header}
 use Rattle.header.specs.Fields.{headerOf}
 use Rattle.rules.specs.declared.Shape.{Shape}
 use Rattle.rules.specs.declared.Image.{Image}
-use Rattle.rules.specs.Rules.{shapeRows, imageOf, shapeOfRecord, imageCut}
+use Rattle.rules.specs.Rules.{axisCount, imageOf, shapeOfRecord, imageCut}
+use Rattle.rules.proofs.Passed.{fields-offset}
+use Rattle.layout.specs.declared.Layout.{Layout}
 use Rattle.layout.specs.File.{shapeIn}
 use Rattle.reader.specs.Reading.{readingOf}
-use Rattle.reader.proofs.File.{shape-rows}
 use Rattle.outline.specs.declared.Outline.{Outline}
 use Rattle.outline.specs.declared.Outlined.the-variants.{Shown}
 use Rattle.outline.specs.Outline.{outlineOf}
-use Rattle.outline.proofs.Outlines.{shows, shown-header}
-use Rattle.voxel.specs.declared.Located.the-variants.{Unlocated}
-use Rattle.voxel.specs.Voxel.{locatedBy, locatedIn, Bounded, placedBy}
-use Rattle.voxel.proofs.Sized.{shape-bounded}
-use Rattle.voxel.proofs.Locating.{locates-16, locates-placed}
+use Rattle.outline.proofs.Outlines.{shows, shown-rows, shown-header}
+use Rattle.voxel.specs.declared.Located.the-variants.{At, Unlocated}
+use Rattle.voxel.specs.Voxel.{lengthsIn, bytesIn, locatedBy, locatedIn}
+use Rattle.voxel.specs.Steps.{Volume, extentBy}
+use Rattle.voxel.proofs.Sized.{volumeWith, passed-fields, located-16, located-17, located-at, located-small}
 
 -- the fields that an accepted file shows are its record's
 module _ (s : List ℕ) (o : Outline) (e : outlineOf 0 s ≡ Shown o) where
@@ -34,30 +36,39 @@ module _ (s : List ℕ) (o : Outline) (e : outlineOf 0 s ≡ Shown o) where
   unfolding shapeIn headerOf
   shown-shape = ap shapeOfRecord (shown-header s 0 o e)
 
-  -- and those that rules 5 to 10 judge pass them: so 16 and 17 alone decide on a voxel
-  abbrev fields : Shape
+  abbrev pub fields : Shape
   fields = shapeIn (o .layout .order) (o .layout .kind) s
 
-  passed : (verdict (shapeRows fields) ≡ Accepted) × (imageOf fields ≡ o .layout .image)
-  passed =
-      let w = shows s 0 o e in
-      rw (← w .layout) (clear-accepted (shape-rows s (w .file .rules)), refl)
+  -- with their sizes
+  abbrev pub volume : Volume
+  volume = volumeWith fields (sizesBy (fields .dim) (axisCount (fields .dim)) (bytesIn fields))
 
-  pub shown-bounded : Bounded (i16sAt (o .layout .order) s 40 8) (i16At (o .layout .order) s 72) (o .layout .image .offset)
-  unfolding shapeIn
-  shown-bounded =
-      rw (← ap (λ (i : Image). i .offset) (passed .1)) (shape-bounded fields (accepted-clear (shapeRows fields) (passed .0)))
+  pub shown-image : imageOf fields ≡ o .layout .image
+  shown-image =
+      ap (λ (l : Layout). imageOf (shapeIn (l .order) (l .kind) s)) (sym (shows s 0 o e .layout))
+      ∙ ap (λ (l : Layout). l .image) (shows s 0 o e .layout)
 
+  -- and what their sizes give is what it gives, rule by rule
   module _ (len : ℕ) (index : List ℕ) where
-    record-located : locatedBy fields len index ≡ locatedIn (readingOf s .header) len index
-    record-located = ap (λ (f : Shape). locatedBy f len index) shown-shape
+    same : locatedBy fields len index ≡ locatedIn (readingOf s .header) len index
+    same = ap (λ (f : Shape). locatedBy f len index) shown-shape
 
-    pub shown-cut : imageCut (o .layout .kind) len (o .layout .image) ≡ true → Unlocated (refusal 16 0) ≡ locatedIn (readingOf s .header) len index
+    cut-is : imageCut (fields .kind) len (imageOf fields) ≡ imageCut (o .layout .kind) len (o .layout .image)
     unfolding shapeIn
-    shown-cut cut = locates-16 fields len index (o .layout .image) passed cut ∙ record-located
+    cut-is = ap (λ (i : Image). imageCut (o .layout .kind) len i) shown-image
 
-    pub shown-placed : imageCut (o .layout .kind) len (o .layout .image) ≡ false
-        → placedBy (i16sAt (o .layout .order) s 40 8) (i16At (o .layout .order) s 72) (o .layout .image .offset) index
-        ≡ locatedIn (readingOf s .header) len index
-    unfolding shapeIn
-    shown-placed whole = locates-placed fields len index (o .layout .image) passed whole ∙ record-located
+    pub shown-16 : imageCut (o .layout .kind) len (o .layout .image) ≡ true → Unlocated (refusal 16 0) ≡ locatedIn (readingOf s .header) len index
+    shown-16 cut = located-16 fields (shown-rows s 0 o e) len index (cut-is ∙ cut) ∙ same
+
+    module _ (whole : imageCut (o .layout .kind) len (o .layout .image) ≡ false) where
+      pub shown-17 : within (lengthsIn fields) index ≡ false → Unlocated (refusal 17 0) ≡ locatedIn (readingOf s .header) len index
+      shown-17 out = located-17 fields (shown-rows s 0 o e) len index (cut-is ∙ whole) out ∙ same
+
+      pub shown-at : within (lengthsIn fields) index ≡ true → At (extentBy volume index) ≡ locatedIn (readingOf s .header) len index
+      shown-at inside = located-at fields (shown-rows s 0 o e) len index (cut-is ∙ whole) inside ∙ same
+
+    pub shown-small : within (lengthsIn fields) index ≡ true → bytesBefore (volume .sizes .steps) index ≤ imageLimit
+    shown-small inside = located-small fields (shown-rows s 0 o e) len index inside
+
+  pub shown-low : o .layout .image .offset ≤ offsetLimit
+  shown-low = rw (← shown-image) (fields-offset fields 0 (passed-fields fields (shown-rows s 0 o e)))

@@ -31,7 +31,8 @@ use Rattle.voxel.specs.declared.Extent.{Extent}
 use Rattle.voxel.specs.declared.Located.{Located}
 use Rattle.voxel.specs.declared.Located.the-variants.{At, Unlocated}
 use Rattle.voxel.specs.Voxel.{lengthsOf, voxelBytes, imageRows, voxelRows, extentOf, locatedBy, locatedIn}
-use Rattle.voxel.proofs.Sized.{shape-bounded}
+use Rattle.rules.proofs.Sizes.{shape-measured}
+use Rattle.voxel.proofs.Sized.{shape-some}
 use Rattle.voxel.proofs.Locating.{Found, found, unlocated-never, passed-located}
 use Rattle.voxel.proofs.Theorems.{Inside, extent-inside, unlocated-same, rows-number, single-rows}
 use Rattle.by_file.specs.Files.{locatedOf, partOf, voxelOf}
@@ -68,7 +69,7 @@ module _ (file image index : List ℕ) (e : Extent) (at : locatedOf file image i
 
   -- there are some,
   pub voxel-some : 1 ≤ e .length
-  voxel-some = rw (← file-found .is) (shape-bounded (shapeOfRecord (readingOf file .header)) (file-found .rules) .some)
+  voxel-some = rw (← file-found .is) (shape-some (shapeOfRecord (readingOf file .header)) (file-found .rules))
 
   -- and these are handed back.
   pub voxel-bytes-are : voxelOf file image index
@@ -90,7 +91,7 @@ module _ (file image index : List ℕ) (e : Extent) (at : locatedOf file image i
       let n : ℕ = axisCount (readingOf file .header .dim) in
       let d : readingOf file .header .dim ≡ i16sAt (orderOf file) file 40 8 =
       ap (λ (s : Shape). s .dim) (accepted-shape file (located-both file image index e at .0)) in
-      index-seven (orderOf file) file n index (shape-bounded (shapeOfRecord (readingOf file .header)) (f .rules) .axes)
+      index-seven (orderOf file) file n index (shape-measured (shapeOfRecord (readingOf file .header)) (f .rules) .small .axes)
       (subst (λ (dim : List ℤ). within (sevenAxes dim n) index ≡ true) d (f .inside))
 
   pub located-past : (k : ℕ) → axisCount (readingOf file .header .dim) ≤ k → getD index k 0 ≡ 0

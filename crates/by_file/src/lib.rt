@@ -1,5 +1,5 @@
 // A voxel of a file's bytes: its place, and the bytes themselves (01-scope.md, "Voxels and byte order"). Rules 1 to 15 come first, by
-// the file's outline; then the crate voxel answers by the fields that it asks for, and no record is made.
+// the file's outline; then the sizes give the place, by the same sum as of a record, and no record is made.
 ghost use mathlib.Core.Path.{_≡_};
 ghost use mathlib.Core.List.{[], _∷_};
 ghost use Prim.Native.Nat.{_+_, _≤_};
@@ -12,7 +12,7 @@ ghost use Rattle.by_file.specs.Files.{locatedOf, voxelOf};
 use header::Kind;
 use outline::Outline;
 use outline::Outlined;
-use refusal::Refusal;
+use voxel::Extent;
 use voxel::Located;
 
 // Rules 16 and 17 of an accepted file, and the voxel's place.
@@ -25,14 +25,20 @@ fn locate_shown(file: &[u8], outline: Outline, len: usize, index: [u64; 7]) -> L
     let kind = layout.kind;
     let image = layout.image;
     if bounds::image_cut(kind, len, image) {
-        return Located::Unlocated(Refusal {
-            number: 16,
-            place: 0,
-        });
+        return voxel::unlocated(16, 0);
     }
     let dim = header::dims(file, order);
     let bitpix = field::read_i16(file, 72, order);
-    voxel::locate_inside(dim, bitpix, image.offset, index)
+    let sizes = sizes::sizes_in(dim, bitpix);
+    let steps = sizes.steps;
+    let before = sizes::bytes_before(&dim, rules::axis_count(&dim), &steps, &index);
+    if before == sizes::OUTSIDE {
+        return voxel::unlocated(17, 0);
+    }
+    Located::At(Extent {
+        place: image.offset + before,
+        length: steps[0],
+    })
 }
 
 // The place and length of a voxel's bytes, or the refusal.

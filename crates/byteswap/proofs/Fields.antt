@@ -17,7 +17,8 @@ use Rattle.header.specs.declared.Kind.the-variants.{Single, Pair}
 use Rattle.header.specs.Fields.{magicOf, headerOf, inOrder, withOffset}
 use Rattle.header.proofs.Agree.{Agrees, wordPlaces, halfPlaces, textPlaces, each-among, header-agrees}
 use Rattle.rules.specs.Rules.{oneToSeven, shapeOfRecord}
-use Rattle.layout.specs.File.{holdsIn, orderOf, sameBytes, hasMagic, kindOf, shapeIn}
+use Rattle.number.specs.Same.{sameNumbers}
+use Rattle.layout.specs.File.{holdsIn, orderOf, hasMagic, kindOf, shapeIn}
 use Rattle.layout.proofs.Starting.{either}
 use Rattle.reader.proofs.Theorems.{never-both}
 use Rattle.units.specs.Runs.{Run, turnRuns, headerRuns}
@@ -84,7 +85,7 @@ module _ (rest : List Run) (s : List ℕ) (room : spanOf (headerRuns ++ rest) �
 
   pub magic-same : (kind : Kind) → hasMagic kind after ≡ hasMagic kind s
   unfolding hasMagic
-  magic-same kind = ap (λ (l : List ℕ). sameBytes l (magicOf kind)) (text-same runs s room 344 4 refl)
+  magic-same kind = ap (λ (l : List ℕ). sameNumbers l (magicOf kind)) (text-same runs s room 344 4 refl)
 
   pub kind-same : kindOf after ≡ kindOf s
   unfolding kindOf

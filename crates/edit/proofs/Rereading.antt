@@ -30,7 +30,7 @@ use Rattle.header.specs.Fields.{headerOf}
 use Rattle.header.proofs.Distinct.{single-never}
 use Rattle.rules.specs.declared.Shape.{Shape}
 use Rattle.rules.specs.declared.Image.{Image}
-use Rattle.rules.specs.Rules.{imageOf, offsetOutside, shapeOfRecord, cutShort, regionEnd}
+use Rattle.rules.specs.Rules.{imageOf, offsetOutside, shapeOfRecord, sized, cutShort, regionEnd}
 use Rattle.rules.proofs.Passed.{neither, Fields}
 use Rattle.layout.specs.File.{orderOf, kindOf, shapeIn, shapeOf, cutExtender, extenderOf, saysSome, hasExtensions}
 use Rattle.layout.specs.File.{layoutOf, endOf}
@@ -245,7 +245,7 @@ module _ (f : List ℕ) (xs : List (List ℕ)) (long : 348 ≤ length f) where
       reads-new old a =
           let n : length ss ≡ length xs = length-spansFrom (orderOf f) firstPlace xs in
           file-reads g ss (new-file (a .rules))
-          ∙ (λ i. record { verdict = Accepted; header = header-is f xs long (n i) (spansOf ss) i; image = image-is i })
+          ∙ (λ i. record { verdict = Accepted; header = sized (header-is f xs long (n i) (spansOf ss) i); image = image-is i })
           ∙ sym (ap (λ (r : Reading). readAfter r xs) (file-reads f old a))
 
     pub tail-new : tailOf g ≡ tailOf f

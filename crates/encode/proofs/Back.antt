@@ -1,5 +1,6 @@
--- A record that was written reads back as itself: the other way round of the round trip in Round.antt (01-scope.md, demand 2). It is
--- said of a record as reading makes them, `Writable`, which the record of any file that states 348 and its kind's magic is.
+-- A record that was written reads back as itself, its sizes apart, which are no bytes: the other way round of the round trip in Round.antt
+-- (01-scope.md, demand 2). It is said of a record as reading makes them, `Writable`, which the record of any file that states 348 and its
+-- kind's magic is.
 use Prim.Native.Nat.{ℕ, zero, suc, _+_, _*_, _<_}
 use mathlib.Core.Path.{_≡_, refl, ap, sym, _∙_}
 use mathlib.Core.List.{List, [], _∷_, _++_, map}
@@ -14,10 +15,12 @@ use Rattle.field.specs.Numbers.{tabulate, bytesAt, padded, numberOf, bytesOf, u
 use Rattle.field.proofs.Inverse.{bytes-number, u16-fits, u32-fits}
 use Rattle.field.proofs.Tabulate.{tabulate-same, length-tabulate}
 use Rattle.extension.specs.declared.Span.{Span}
+use Rattle.grid.specs.declared.Sizes.{Sizes}
+use Rattle.grid.specs.Sizes.{noSizes}
 use Rattle.header.specs.declared.Header.{Header}
 use Rattle.header.specs.declared.Kind.{Kind}
 use Rattle.header.specs.declared.Kind.the-variants.{Single, Pair}
-use Rattle.header.specs.Fields.{magicOf, headerOf}
+use Rattle.header.specs.Fields.{magicOf, headerOf, withSizes}
 use Rattle.encode.specs.Encode.{encode, keyBytes, dimBytes, intentBytes, scaleBytes, displayBytes, quaternBytes, rowsBytes}
 
 -- ---- A record as reading makes them: each number fits its field, and each list has its field's length
@@ -83,6 +86,27 @@ pub record Writable (h : Header) : Type 0 where
   pub «aux_file» : length (h .display .«aux_file») ≡ 24
   pub «intent_name» : length (h .rows .«intent_name») ≡ 16
 
+-- the sizes play no part
+pub sizes-writable : (sizes : Sizes) {h : Header} → Writable h → Writable (withSizes sizes h)
+sizes-writable sizes w =
+    record {
+      size = w .size;
+      magic = w .magic;
+      words = w .words;
+      longs = w .longs;
+      shorts = w .shorts;
+      dim = w .dim;
+      pixdim = w .pixdim;
+      «srow_x» = w .«srow_x»;
+      «srow_y» = w .«srow_y»;
+      «srow_z» = w .«srow_z»;
+      «data_type» = w .«data_type»;
+      «db_name» = w .«db_name»;
+      descrip = w .descrip;
+      «aux_file» = w .«aux_file»;
+      «intent_name» = w .«intent_name»;
+    }
+
 -- ---- Read back, by kind of field
 
 tabulate-all : {A : Type 0} (d : A) (l : List A) → tabulate (λ i. getD l i d) (length l) ≡ l
@@ -121,7 +145,8 @@ magic-read Pair rest = refl
 
 -- ---- The record
 
-pub header-read : (h : Header) (rest : List ℕ) → Writable h → headerOf (h .order) (h .kind) (h .count) (h .spans) (encode h ++ rest) ≡ h
+pub header-read : (h : Header) (rest : List ℕ) → Writable h
+    → headerOf (h .order) (h .kind) (h .count) (h .spans) (encode h ++ rest) ≡ withSizes noSizes h
 unfolding headerOf u16At u32At padded bytesOf u32sBytes i16sBytes encode keyBytes dimBytes intentBytes scaleBytes displayBytes quaternBytes rowsBytes
 header-read h rest w =
     let o = h .order in
@@ -133,6 +158,7 @@ header-read h rest w =
       dim = shorts o (w .dim) i;
       count = h .count;
       spans = h .spans;
+      sizes = noSizes;
       key =
           record {
             «sizeof_hdr» = (long o (pos 348) (record { sfits = omega arith }) ∙ sym (w .size)) i;

@@ -15,7 +15,7 @@ use lib.Dec.{ltb, eqb·suc-zero}
 use borrow.Author.Tests.{ltb-true, ltb-false}
 use Rattle.number.specs.Natural.{naturalOf}
 use Rattle.grid.specs.Grid.{voxels, within, voxelNumber}
-use Rattle.grid.specs.Axes.{dimAt, belowOne, firstBelow, axes, imageBytes, imageLimit, sevenAxes}
+use Rattle.grid.specs.Axes.{dimAt, belowOne, firstBelow, axes, imageBytes, sevenAxes}
 use Rattle.grid.proofs.Entry.{below-natural}
 use Rattle.grid.proofs.Voxels.{within-both, number-below}
 
@@ -121,14 +121,16 @@ unfolding axes voxels
 voxels-next dim n =
     voxels-append (axes dim n) (naturalOf (dimAt dim (suc n)) ∷ []) ∙ rw (mul-one (naturalOf (dimAt dim (suc n))))
 
+-- an entry that is not below 1 states a length
+natural-some : (d : ℤ) → belowOne d ≡ false → 1 ≤ naturalOf d
+natural-some d e = ltb-false (naturalOf d) 1 (sym (below-natural d) ∙ e)
+
 pub voxels-positive : (dim : List ℤ) (n : ℕ) → firstBelow dim n ≡ 0 → 1 ≤ voxels (axes dim n)
 unfolding axes voxels
 voxels-positive dim zero h = omega arith
 voxels-positive dim (suc n) h =
     let p = first-before dim n h in
-    let d : ℤ = dimAt dim (suc n) in
-    let one : 1 ≤ naturalOf d = ltb-false (naturalOf d) 1 (sym (below-natural d) ∙ p .1) in
-    rw (voxels-next dim n) (one-le-mul (voxels-positive dim n (p .0)) one)
+    rw (voxels-next dim n) (one-le-mul (voxels-positive dim n (p .0)) (natural-some (dimAt dim (suc n)) (p .1)))
 
 pub image-none : (dim : List ℤ) (b : ℕ) → imageBytes dim 0 b ≡ b
 unfolding imageBytes axes voxels
@@ -137,6 +139,18 @@ image-none dim b = one-mul b
 pub image-next : (dim : List ℤ) (n b : ℕ) → imageBytes dim (suc n) b ≡ imageBytes dim n b * naturalOf (dimAt dim (suc n))
 unfolding imageBytes
 image-next dim n b = rw (voxels-next dim n) (mul-right-comm (voxels (axes dim n)) (naturalOf (dimAt dim (suc n))) b)
+
+-- where no entry is below 1, an axis more makes the image no smaller
+pub image-grows : (dim : List ℤ) (k n b : ℕ) → firstBelow dim n ≡ 0 → k ≤ n → imageBytes dim k b ≤ imageBytes dim n b
+image-grows dim k zero b h l = let e : k ≡ 0 = omega arith in rw e (le-refl _)
+image-grows dim k (suc n) b h l =
+    let p = first-before dim n h in
+    let m : ℕ = imageBytes dim n b in
+    let grows : m ≤ m * naturalOf (dimAt dim (suc n)) = le-mul-of-pos-right m (natural-some (dimAt dim (suc n)) (p .1)) in
+    ⊎-elim
+    (λ e. rw e (le-refl _))
+    (λ s. omega (arith, image-next dim n b, image-grows dim k n b (p .0) (le-of-suc-le-suc s)))
+    (eq-or-lt-of-le l)
 
 -- ---- the seven axes
 
@@ -195,12 +209,6 @@ voxels-seven dim n =
 pub image-seven : (dim : List ℤ) (n b : ℕ) → imageBytes dim n b ≡ b * voxels (sevenAxes dim n)
 unfolding imageBytes
 image-seven dim n b = rw (voxels-seven dim n) (mul-comm (voxels (axes dim n)) b)
-
--- rule 10 bounds the voxels too: each has a byte at least
-pub voxels-limit : (dim : List ℤ) (n b : ℕ) → 1 ≤ b → imageBytes dim n b ≤ imageLimit → voxels (sevenAxes dim n) ≤ imageLimit
-voxels-limit dim n b p h =
-    let v : ℕ = voxels (sevenAxes dim n) in
-    omega (arith, image-seven dim n b, mul-comm b v, le-mul-of-pos-right {m = b} v p)
 
 -- the bytes of a voxel are bytes of the image
 pub voxel-inside : (dim : List ℤ) (n b : ℕ) (is : List ℕ) → within (sevenAxes dim n) is ≡ true

@@ -3,3 +3,4 @@ pub mod Limit
 pub mod Axes
 pub mod Voxels
 pub mod Bounds
+pub mod Steps

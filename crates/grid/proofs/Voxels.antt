@@ -4,7 +4,7 @@ use mathlib.Core.Path.{_≡_, refl, sym, ap, _∙_}
 use mathlib.Core.Bool.{true, _&&_, and-eq-true-iff, false≢true}
 use mathlib.Core.List.{List, [], _∷_}
 use Prim.Native.Nat.{ℕ, zero, suc, _+_, _-_, _*_, _/_, _%_, _≤_, _<_, zero-le, suc-le-suc}
-use native.Mathlib.Nat.{mul-comm, mul-le-mul-right, one-mul, zero-mul, mod-lt, mod-add-div, div-lt-iff-lt-mul, not-suc-le-zero}
+use native.Mathlib.Nat.{mul-comm, zero-mul, mod-lt, mod-add-div, div-lt-iff-lt-mul, not-suc-le-zero}
 use native.Mathlib.Numerals.{add-one}
 use native.Mathlib.Omega.{arith}
 use lib.ListN.{length, getD, drop, drop-of-length-le}
@@ -114,37 +114,3 @@ module _ (ds is : List ℕ) (k : ℕ) where
   pub within-end : length ds ≤ k → length is ≤ k → within (drop k ds) (drop k is) ≡ true
   unfolding within
   within-end h g = rw (drop-of-length-le ds h, drop-of-length-le is g)
-
-  number-next : k < length ds → k < length is
-      → voxelNumber (drop k ds) (drop k is) ≡ getD is k 0 + getD ds k 0 * voxelNumber (drop (k + 1) ds) (drop (k + 1) is)
-  unfolding voxelNumber
-  number-next h g = rw (add-one, drop-cons ds k 0, drop-cons is k 0)
-
-  pub number-end : length ds ≤ k → voxelNumber (drop k ds) (drop k is) ≡ 0
-  unfolding voxelNumber
-  number-end h = rw (drop-of-length-le ds h)
-
--- the number on the axes from k on is below how many voxels there are
-number-from-below : (k : ℕ) (ds is : List ℕ) → within ds is ≡ true → voxelNumber (drop k ds) (drop k is) < voxels ds
-unfolding within voxelNumber voxels
-number-from-below zero ds is h = number-below ds is h
-number-from-below (suc k) [] is h = omega arith
-number-from-below (suc k) (d ∷ ds) [] h = absurd (false≢true h)
-number-from-below (suc k) (d ∷ ds) (i ∷ is) h =
-    let p = within-both d ds i is h in
-    let g : 1 * voxels ds ≤ d * voxels ds = mul-le-mul-right (voxels ds) (omega arith) in
-    omega (arith, number-from-below k ds is (p .1), one-mul (voxels ds))
-
--- what a turn of the loop over the axes, from the last to the first, makes of the number r on the axes after k
-pub record Turn (ds is : List ℕ) (k r : ℕ) : Type 0 where
-  pub next : getD is k 0 + getD ds k 0 * r ≡ voxelNumber (drop k ds) (drop k is)
-  pub below : getD is k 0 + getD ds k 0 * r < voxels ds
-
-pub number-turn : (ds is : List ℕ) (k r : ℕ) → 0 < k → k ≤ length ds → k ≤ length is → within ds is ≡ true
-    → r ≡ voxelNumber (drop k ds) (drop k is) → Turn ds is (k - 1) r
-number-turn ds is k r pos h g w e =
-    let back : k - 1 + 1 ≡ k = omega arith in
-    let step = number-next ds is (k - 1) (omega arith) (omega arith) in
-    let next : getD is (k - 1) 0 + getD ds (k - 1) 0 * r ≡ voxelNumber (drop (k - 1) ds) (drop (k - 1) is) =
-    sym (rw back at step ∙ rw e refl) in
-    record { next = next; below = omega (arith, number-from-below (k - 1) ds is w) }

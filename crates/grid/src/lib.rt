@@ -1,14 +1,20 @@
-// An image's axes, as the header's dim states them: which entry is below 1, the image's bytes, and the number of an
-// index's voxel. Where dim is a slice, dim[i] is 0 past its end, and n is the number of axes, dim[0].
+// An image's axes, as the header's dim states them: which entry is below 1, the image's bytes, and the lengths of the seven axes.
+// Where dim is a slice, dim[i] is 0 past its end, and n is the number of axes, dim[0].
 ghost use mathlib.Core.Path.{_≡_};
-ghost use mathlib.Core.Bool.{true};
-ghost use Prim.Native.Nat.{_≤_};
+ghost use Prim.Native.Nat.{_<_, _≤_};
+ghost use lib.ListN.{getD};
 ghost use Rattle.number.specs.Natural.{naturalOf};
-ghost use Rattle.grid.specs.Grid.{voxels, within, voxelNumber};
-ghost use Rattle.grid.specs.Axes.{dimAt, firstBelow, imageBytes, imageLimit, capped, sevenAxes};
+ghost use Rattle.grid.specs.Axes.{dimAt, firstBelow, imageBytes, capped, sevenAxes};
 
 // The most bytes that an image may have (rule 10).
 pub const LIMIT: u64 = 1_099_511_627_776;
+
+// An image's sizes: its bytes in all and, for each axis, the step, that is how many bytes on from a voxel the next one along
+// the axis is (specs/Sizes.antt).
+pub struct Sizes {
+    pub total: u64,
+    pub steps: [u64; 7],
+}
 
 // The length that dim[i] states: 0 where it is negative.
 pub fn axis_length(dim: &[i16], i: usize) -> u64
@@ -35,7 +41,7 @@ pub fn first_below_one(dim: &[i16], n: usize) -> usize
 }
 
 // A number, or one above the limit where it is above that.
-fn limited(m: u64) -> u64
+pub fn limited(m: u64) -> u64
     ensures { λ r. ⌜ r ≡ capped m ⌝ }
 {
     if m <= LIMIT { m } else { LIMIT + 1 }
@@ -70,31 +76,10 @@ pub fn seven(dim: &[i16], n: usize) -> [u64; 7]
     lengths
 }
 
-// Whether each number of an index is inside its axis.
-pub fn is_within(lengths: [u64; 7], index: [u64; 7]) -> bool
-    ensures { λ r. ⌜ r ≡ within lengths index ⌝ }
+// The length of the axis that k axes are before: 1 past dim[0].
+pub fn length_after(dim: &[i16], n: usize, k: usize) -> u64
+    requires { ⌜ k < 7 ⌝ }
+    ensures { λ r. ⌜ (r ≡ getD (sevenAxes (now (dim .entry)) n) k 0) × (r ≤ 32767) ⌝ }
 {
-    let mut k = 0;
-    while k < 7 {
-        if lengths[k] <= index[k] {
-            return false;
-        }
-        k += 1;
-    }
-    true
-}
-
-// The number of the voxel of an index, which is how many voxels are before it: the index's first number varies fastest.
-pub fn voxel_number(lengths: [u64; 7], index: [u64; 7]) -> u64
-    requires { ⌜ within lengths index ≡ true ⌝ }
-    requires { ⌜ voxels lengths ≤ imageLimit ⌝ }
-    ensures { λ r. ⌜ r ≡ voxelNumber lengths index ⌝ }
-{
-    let mut k = 7;
-    let mut r = 0;
-    while 0 < k {
-        k -= 1;
-        r = index[k] + lengths[k] * r;
-    }
-    r
+    if k < n { axis_length(dim, k + 1) } else { 1 }
 }

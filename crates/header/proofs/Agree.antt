@@ -13,6 +13,7 @@ use mir.Val.{toZ}
 use Rattle.field.specs.declared.Order.{Order}
 use Rattle.field.specs.Numbers.{bytesAt, u32At, i16At, i32At, u32sAt, i16sAt}
 use Rattle.extension.specs.declared.Span.{Span}
+use Rattle.grid.specs.Sizes.{noSizes}
 use Rattle.header.specs.declared.Kind.{Kind}
 use Rattle.header.specs.Fields.{headerOf, inOrder, withOffset}
 
@@ -139,6 +140,7 @@ module _ (o p : Order) (s t : List ℕ) (a : Agrees o p s t) where
         dim = a .halves 40 8 refl i;
         count = count;
         spans = spans;
+        sizes = noSizes;
         key =
             record {
               «sizeof_hdr» = i32 0 refl i;

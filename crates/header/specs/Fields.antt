@@ -8,6 +8,8 @@ use Rattle.field.specs.declared.Order.the-variants.{Little}
 use Rattle.field.specs.Numbers.{bytesAt, u32At, i16At, i32At, u32sAt, i16sAt}
 use Rattle.extension.specs.declared.Span.{Span}
 use Rattle.extension.specs.Listing.{spansOf}
+use Rattle.grid.specs.declared.Sizes.{Sizes}
+use Rattle.grid.specs.Sizes.{noSizes}
 use Rattle.header.specs.declared.Kind.{Kind}
 use Rattle.header.specs.declared.Kind.the-variants.{Single, Pair}
 use Rattle.header.specs.declared.Header.{Header}
@@ -101,7 +103,7 @@ rowsOf order s =
       magic = bytesAt 344 4 s;
     }
 
--- the whole record; dim is at bytes 40..56
+-- the whole record; dim is at bytes 40..56. The sizes are no field of the header's bytes: reading puts them in (`sized`, rules/Rules).
 unfoldable pub headerOf : Order → Kind → ℕ → List Span → List ℕ → Header
 headerOf order kind count spans s =
     record {
@@ -110,6 +112,7 @@ headerOf order kind count spans s =
       dim = i16sAt order s 40 8;
       count = count;
       spans = spans;
+      sizes = noSizes;
       key = keyOf order s;
       intent = intentOf order s;
       scale = scaleOf order s;
@@ -133,6 +136,7 @@ inOrder order h =
       dim = h .dim;
       count = h .count;
       spans = h .spans;
+      sizes = h .sizes;
       key = h .key;
       intent = h .intent;
       scale = h .scale;
@@ -150,6 +154,25 @@ withSpans count spans h =
       dim = h .dim;
       count = count;
       spans = spans;
+      sizes = h .sizes;
+      key = h .key;
+      intent = h .intent;
+      scale = h .scale;
+      display = h .display;
+      quatern = h .quatern;
+      rows = h .rows;
+    }
+
+-- its sizes
+abbrev pub withSizes : Sizes → Header → Header
+withSizes sizes h =
+    record {
+      order = h .order;
+      kind = h .kind;
+      dim = h .dim;
+      count = h .count;
+      spans = h .spans;
+      sizes = sizes;
       key = h .key;
       intent = h .intent;
       scale = h .scale;
@@ -167,6 +190,7 @@ withOffset bits h =
       dim = h .dim;
       count = h .count;
       spans = h .spans;
+      sizes = h .sizes;
       key = h .key;
       intent = h .intent;
       scale =

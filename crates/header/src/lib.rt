@@ -1,6 +1,6 @@
 // The record of a NIfTI-1 header: all 43 fields of source document 003, the unused ones too, every float by its 32
 // bits, so that a NaN's payload survives (01-scope.md, "The record has all fields"). Grouped in file order; the dims,
-// the extension spans, the byte order and the kind of file stand at the top.
+// the extension spans, the image's sizes (02-change-requests.md, P4), the byte order and the kind of file stand at the top.
 ghost use mathlib.Core.Path.{_≡_};
 ghost use Prim.Native.Nat.{_+_, _<_, _≤_};
 ghost use lib.ListN.{length};
@@ -9,6 +9,7 @@ ghost use Rattle.header.specs.Fields.{headerOf, keyOf, intentOf, scaleOf
 use extension::LIMIT;
 use extension::Span;
 use field::Order;
+use grid::Sizes;
 
 // A single file (magic n+1), or the header file of a pair (magic ni1).
 pub enum Kind {
@@ -22,6 +23,7 @@ pub struct Header {
     pub dim: [i16; 8],
     pub count: usize,
     pub spans: [Span; LIMIT],
+    pub sizes: Sizes,
     pub key: Key,
     pub intent: Intent,
     pub scale: Scale,
@@ -271,7 +273,7 @@ fn read_rows(file: &[u8], order: Order) -> Rows
     }
 }
 
-// All of a record.
+// All of a record that the bytes state: its sizes are not among them.
 fn parse_front(front: &[u8], order: Order, kind: Kind, count: usize, spans: [Span; LIMIT]) -> Header
     requires { ⌜ 348 ≤ length (now front) ⌝ }
     ensures { λ r. ⌜ r ≡ headerOf order kind count spans (now (front .entry)) ⌝ }
@@ -282,6 +284,10 @@ fn parse_front(front: &[u8], order: Order, kind: Kind, count: usize, spans: [Spa
         dim: dims(front, order),
         count,
         spans,
+        sizes: Sizes {
+            total: 0,
+            steps: [0u64; 7],
+        },
         key: read_key(front, order),
         intent: read_intent(front, order),
         scale: read_scale(front, order),

@@ -1,24 +1,27 @@
 -- What rules 1 to 12 decide together: the verdicts of rules 1 to 4, 5 to 10, and 11 and 12, one after the other.
 use Prim.Native.Nat.{ℕ, _≤_}
 use mathlib.Core.Path.{_≡_, ap, sym, _∙_}
+use mathlib.Core.Bool.{true}
 use mathlib.Core.List.{List, _++_}
 use native.Mathlib.Omega.{arith}
-use borrow.Author.Tests.{ltb-false}
+use borrow.Author.Tests.{ltb-false, not-false}
 use Rattle.field.specs.declared.Order.{Order}
 use Rattle.refusal.specs.declared.Refusal.{Refusal}
 use Rattle.refusal.specs.declared.Verdict.{Verdict}
 use Rattle.refusal.specs.declared.Verdict.the-variants.{Accepted, Refused}
 use Rattle.refusal.specs.Table.{verdict, decided, then}
-use Rattle.refusal.proofs.Rows.{Clear, one, accepted-clear, verdict-append, decided-accepted, decided-refused}
+use Rattle.refusal.proofs.Rows.{Clear, one, accepted-clear, clear-split, verdict-append, decided-accepted, decided-refused}
 use Rattle.header.specs.declared.Kind.{Kind}
 use Rattle.rules.specs.declared.Image.{Image}
 use Rattle.rules.specs.declared.Judged.the-variants.{Passed, Failed}
-use Rattle.rules.specs.Rules.{fieldRows, imageOf, judgedOf}
-use Rattle.rules.proofs.Passed.{judged-passed-is, judged-failed-is}
+use Rattle.rules.specs.Rules.{fieldRows, imageOf, judgedOf, Measured}
+use Rattle.rules.proofs.Passed.{Fields, clear-fields, judged-passed-is, judged-failed-is}
+use Rattle.rules.proofs.Sizes.{fields-measured}
 use Rattle.layout.specs.declared.Start.the-variants.{Read, Unread}
 use Rattle.layout.specs.declared.Layout.{Layout}
 use Rattle.layout.specs.declared.Checked.the-variants.{Fits, Breaks}
-use Rattle.layout.specs.File.{orderOf, kindOf, headRows, startIn, shapeIn, shapeOf, endRows, rowsIn, layoutOf, checkedIn}
+use Rattle.layout.specs.File.{holdsIn, orderOf, kindOf, headRows, startIn, shapeIn, shapeOf, endRows, rowsIn, layoutOf, checkedIn}
+use Rattle.layout.proofs.Starting.{either}
 
 -- what an answer of rules 1 to 4 tells
 pub record Began (s : List ℕ) (len : ℕ) (order : Order) (kind : Kind) : Type 0 where
@@ -102,3 +105,17 @@ module _ (s : List ℕ) (len : ℕ) where
   pub checked-breaks : (r : Refusal) → checkedIn s len ≡ Breaks r → verdict (rowsIn s len) ≡ Refused r
   unfolding checkedIn
   checked-breaks r e = let p = decided-refused (verdict (rowsIn s len)) (λ q. breaks-never (sym q)) e in cc (p .1, p .2)
+
+  -- of fields that they pass the sizes can be computed
+  pub checked-measured : (l : Layout) → checkedIn s len ≡ Fits l → Measured (shapeIn (l .order) (l .kind) s)
+  unfolding shapeIn holdsIn
+  checked-measured l e =
+      let p = checked-fits l e in
+      let a = clear-split (headRows s len) (accepted-clear (rowsIn s len) (p .0)) in
+      let b = clear-split (fieldRows (shapeOf s) len) (a .1) in
+      rw (← p .1) (by (a .0) (clear-fields (shapeOf s) len (b .0)))
+    where
+      by : Clear (headRows s len) → Fields (shapeOf s) len → Measured (shapeOf s)
+      by (one r1 (one r2 rest)) fields =
+          let held : holdsIn (orderOf s) s ≡ true = sym (either s) ∙ not-false _ r2 in
+          fields-measured (shapeOf s) len (rw held) fields

@@ -14,7 +14,8 @@ use Rattle.refusal.specs.Table.{refusal, verdict}
 use Rattle.datatype.specs.Datatypes.{isNumber}
 use Rattle.header.specs.declared.Kind.the-variants.{Single, Pair}
 use Rattle.layout.specs.declared.Start.the-variants.{Read, Unread}
-use Rattle.layout.specs.File.{holdsIn, orderOf, sameBytes, hasMagic, kindOf, startIn}
+use Rattle.number.specs.Same.{sameNumbers}
+use Rattle.layout.specs.File.{holdsIn, orderOf, hasMagic, kindOf, startIn}
 
 -- numbers are the same exactly when their last digits to the base 256 are, and what is before these
 digit-same : (a b x y : ℕ) → a < 256 → b < 256 → eqb (a + 256 * x) (b + 256 * y) ≡ eqb a b && eqb x y
@@ -26,7 +27,7 @@ digit-same a b x y h k = by (eqb a b) refl (eqb x y) refl
     by false d u e = rw d (ne-eqb (a + 256 * x) (b + 256 * y) (λ s. eqb-false a b d (omega arith)))
 
 -- so bytes are the same exactly when their numbers are
-same-number : {l m : List ℕ} → Bytes l → Bytes m → length l ≡ length m → eqb (littleValue l) (littleValue m) ≡ sameBytes l m
+same-number : {l m : List ℕ} → Bytes l → Bytes m → length l ≡ length m → eqb (littleValue l) (littleValue m) ≡ sameNumbers l m
 same-number none none e = refl
 same-number none (one h q) e = absurd (omega arith)
 same-number (one h p) none e = absurd (omega arith)
@@ -34,7 +35,7 @@ same-number (one {a} {l} h p) (one {a = b} {l = m} k q) e = rw (← same-number 
 
 -- four bytes of a file, by their number
 pub same-word : (s : List ℕ) → ((i : ℕ) → getD s i 0 < 256) → (at : ℕ) {m : List ℕ} → Bytes m → length m ≡ 4
-    → eqb (u32At Little s at) (littleValue m) ≡ sameBytes (bytesAt at 4 s) m
+    → eqb (u32At Little s at) (littleValue m) ≡ sameNumbers (bytesAt at 4 s) m
 unfolding u32At
 same-word s byte at b e = same-number (one (byte (at + 0)) (one (byte (at + 1)) (one (byte (at + 2)) (one (byte (at + 3)) none)))) b (sym e)
 

@@ -1,7 +1,7 @@
 -- What is judged of a file's header and its length: the refusal table, rules 1 to 12, in its order (01-scope.md, "Refusal numbers", "The
 -- header rules", "Extensions"); and what its extender says (02-change-requests.md, P2).
 use Prim.Native.Nat.{ℕ}
-use mathlib.Core.Bool.{Bool, true, false, not, cond, _&&_, _||_}
+use mathlib.Core.Bool.{Bool, false, not, cond, _&&_, _||_}
 use mathlib.Core.List.{List, [], _∷_, _++_}
 use lib.Dec.{ltb, eqb}
 use lib.ListN.{length, getD}
@@ -9,6 +9,7 @@ use Rattle.field.specs.declared.Order.{Order}
 use Rattle.field.specs.declared.Order.the-variants.{Little, Big}
 use Rattle.field.specs.Numbers.{bytesAt, u32At, i16At, i32At, i16sAt}
 use Rattle.refusal.specs.Table.{Row, row, verdict, decided}
+use Rattle.number.specs.Same.{sameNumbers}
 use Rattle.datatype.specs.Datatypes.{isNumber}
 use Rattle.header.specs.declared.Kind.{Kind}
 use Rattle.header.specs.declared.Kind.the-variants.{Single, Pair}
@@ -30,16 +31,9 @@ holdsIn order s = oneToSeven (i16At order s 40)
 unfoldable pub orderOf : List ℕ → Order
 orderOf s = cond (holdsIn Little s) Little Big
 
--- whether two lists of bytes are the same
-abbrev pub sameBytes : List ℕ → List ℕ → Bool
-sameBytes [] [] = true
-sameBytes [] (b ∷ bs) = false
-sameBytes (a ∷ l) [] = false
-sameBytes (a ∷ l) (b ∷ bs) = eqb a b && sameBytes l bs
-
 -- the magic: n+1 of a single file, ni1 of a pair
 unfoldable pub hasMagic : Kind → List ℕ → Bool
-hasMagic kind s = sameBytes (bytesAt 344 4 s) (magicOf kind)
+hasMagic kind s = sameNumbers (bytesAt 344 4 s) (magicOf kind)
 
 unfoldable pub kindOf : List ℕ → Kind
 kindOf s = cond (hasMagic Single s) Single Pair
@@ -89,10 +83,10 @@ reservedOf s = bytesAt 349 3 s
 -- The base's tests, before P2: 0,0,0,0 is none and 1,0,0,0 is some, and its rule 12 refused any other extender. The law `base-reads`
 -- (base_extender/Theorems) says what became of the files that pass them.
 abbrev pub baseNone : List ℕ → Bool
-baseNone s = sameBytes (extenderOf s) (0 ∷ 0 ∷ 0 ∷ 0 ∷ [])
+baseNone s = sameNumbers (extenderOf s) (0 ∷ 0 ∷ 0 ∷ 0 ∷ [])
 
 abbrev pub baseSome : List ℕ → Bool
-baseSome s = sameBytes (extenderOf s) (1 ∷ 0 ∷ 0 ∷ 0 ∷ [])
+baseSome s = sameNumbers (extenderOf s) (1 ∷ 0 ∷ 0 ∷ 0 ∷ [])
 
 -- rule 12: "12 remains only for lengths 349..351", of a pair
 abbrev pub cutExtender : Kind → ℕ → Bool

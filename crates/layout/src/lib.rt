@@ -9,7 +9,8 @@ ghost use lib.ListN.{length};
 ghost use Rattle.field.specs.declared.Order.the-variants.{Little};
 ghost use Rattle.field.specs.Numbers.{bytesAt, littleValue, u32At};
 ghost use Rattle.refusal.specs.Table.{verdict};
-ghost use Rattle.layout.specs.File.{sameBytes, holdsIn, orderOf, hasMagic, kindOf, startIn, shapeIn, cutExtender};
+ghost use Rattle.number.specs.Same.{sameNumbers};
+ghost use Rattle.layout.specs.File.{holdsIn, orderOf, hasMagic, kindOf, startIn, shapeIn, cutExtender};
 ghost use Rattle.layout.specs.File.{hasExtensions, endRows, checkedIn, checkedOf};
 use field::Order;
 use header::Kind;
@@ -62,7 +63,7 @@ fn word_at(file: &[u8], at: usize) -> u32
 // Whether the four bytes at a place are these: one test, of both as numbers.
 fn is_four(file: &[u8], at: usize, a: u8, b: u8, c: u8, d: u8) -> bool
     requires { ⌜ at < 4294967000 ⌝ }
-    ensures { λ r. ⌜ r ≡ sameBytes (bytesAt at 4 (now (file .entry))) (a ∷ b ∷ c ∷ d ∷ []) ⌝ }
+    ensures { λ r. ⌜ r ≡ sameNumbers (bytesAt at 4 (now (file .entry))) (a ∷ b ∷ c ∷ d ∷ []) ⌝ }
 {
     word_at(file, at) == word_of(a, b, c, d)
 }

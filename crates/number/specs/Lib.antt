@@ -1,1 +1,2 @@
 pub mod Natural
+pub mod Same

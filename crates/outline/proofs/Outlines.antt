@@ -7,7 +7,7 @@ use native.Mathlib.Omega.{arith}
 use lib.ListN.{length, getD}
 use Rattle.refusal.specs.declared.Refusal.{Refusal}
 use Rattle.refusal.specs.Table.{decided}
-use Rattle.refusal.proofs.Rows.{accepted-clear}
+use Rattle.refusal.proofs.Rows.{Clear, accepted-clear}
 use Rattle.extension.specs.declared.Span.{Span}
 use Rattle.extension.specs.Walk.{extensionLimit, firstPlace, Walked, listed, stopped}
 use Rattle.extension.specs.Listing.{noSpan, spansOf}
@@ -16,15 +16,16 @@ use Rattle.listing.specs.declared.Scanned.{Scanned}
 use Rattle.listing.specs.declared.Scanned.the-variants.{Counted, Broken}
 use Rattle.listing.specs.Scan.{scanOf}
 use Rattle.header.specs.Fields.{headerOf}
-use Rattle.rules.specs.Rules.{regionEnd}
+use Rattle.rules.specs.Rules.{shapeRows, sized, regionEnd, Measured}
+use Rattle.rules.proofs.Sizes.{shape-measured}
 use Rattle.layout.specs.declared.Layout.{Layout}
 use Rattle.layout.specs.declared.Checked.{Checked}
 use Rattle.layout.specs.declared.Checked.the-variants.{Fits, Breaks}
-use Rattle.layout.specs.File.{hasExtensions, fileRows, layoutOf, checkedIn, checkedOf, endOf}
+use Rattle.layout.specs.File.{shapeIn, hasExtensions, fileRows, layoutOf, checkedIn, checkedOf, endOf}
 use Rattle.layout.proofs.Checking.{checked-fits}
 use Rattle.reader.specs.Reading.{extensionsOf, judgement, refusedWith, acceptedWith, readingBy, readingOf, IsAccepted}
 use Rattle.reader.proofs.Answers.{judgement-fits, judgement-breaks}
-use Rattle.reader.proofs.File.{AcceptedFile, judged-file, clear-rules, extended-region}
+use Rattle.reader.proofs.File.{AcceptedFile, judged-file, clear-rules, extended-region, shape-rows}
 use Rattle.outline.specs.declared.Outline.{Outline}
 use Rattle.outline.specs.declared.Outlined.{Outlined}
 use Rattle.outline.specs.declared.Outlined.the-variants.{Shown, Hidden}
@@ -121,6 +122,13 @@ module _ (s : List ℕ) (wanted : ℕ) (o : Outline) (e : outlineOf wanted s ≡
   pub shown-few : o .count ≤ extensionLimit
   shown-few = omega (arith, shown .counted, shown .file .few)
 
+  -- the fields that rules 5 to 10 judge have passed them, and their sizes can be computed
+  pub shown-rows : Clear (shapeRows (shapeIn (o .layout .order) (o .layout .kind) s))
+  shown-rows = rw (← shown .layout) (shape-rows s (shown .file .rules))
+
+  pub shown-measured : Measured (shapeIn (o .layout .order) (o .layout .kind) s)
+  shown-measured = shape-measured (shapeIn (o .layout .order) (o .layout .kind) s) shown-rows
+
   -- its reading: the spans are those of the list
   pub shown-reading : readingOf s ≡ acceptedWith s (o .layout) (o .count) (spansOf (shown .list))
   unfolding readingOf
@@ -129,7 +137,7 @@ module _ (s : List ℕ) (wanted : ℕ) (o : Outline) (e : outlineOf wanted s ≡
   pub shown-accepted : IsAccepted s
   shown-accepted = rw shown-reading
 
-  pub shown-header : headerOf (o .layout .order) (o .layout .kind) (o .count) (spansOf (shown .list)) s ≡ readingOf s .header
+  pub shown-header : sized (headerOf (o .layout .order) (o .layout .kind) (o .count) (spansOf (shown .list)) s) ≡ readingOf s .header
   shown-header i = sym shown-reading i .header
 
   pub shown-span : getD (spansOf (shown .list)) wanted noSpan ≡ o .span

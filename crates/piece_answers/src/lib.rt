@@ -56,6 +56,8 @@ fn shown_file(header: Header, image: Image) -> FileAnswer
     let kind = header.kind;
     let dim = header.dim;
     let intent = header.intent;
+    let sizes = header.sizes;
+    let step = sizes.steps;
     FileAnswer {
         refusal: 0,
         place: 0,
@@ -67,6 +69,7 @@ fn shown_file(header: Header, image: Image) -> FileAnswer
         datatype: intent.datatype,
         bitpix: intent.bitpix,
         extensions: header.count as u32,
+        step,
     }
 }
 

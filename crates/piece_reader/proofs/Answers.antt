@@ -24,7 +24,7 @@ use Rattle.extension.specs.Listing.{spansOf, listingOf}
 use Rattle.header.specs.declared.Kind.{Kind}
 use Rattle.header.specs.declared.Kind.the-variants.{Single, Pair}
 use Rattle.header.specs.Fields.{headerOf}
-use Rattle.rules.specs.Rules.{offsetOutside, imageOf, regionEnd}
+use Rattle.rules.specs.Rules.{offsetOutside, imageOf, sized, regionEnd}
 use Rattle.rules.proofs.Passed.{neither}
 use Rattle.layout.specs.declared.Layout.{Layout}
 use Rattle.layout.specs.declared.Checked.{Checked}
@@ -67,7 +67,7 @@ module _ (b : List ℕ) (l : Layout) (fits : checkedOf b ≡ Fits l) (room : len
   reads-halt r e = reads-refused b l fits (listingOf (stopped r)) (ap listingOf (sym e)) r refl
 
   accepted-front : (n : ℕ) (spans : List Span) → acceptedWith (frontOf b) l n spans ≡ acceptedWith b l n spans
-  accepted-front n spans = λ i. record { verdict = Accepted; header = header-front b (l .order) (l .kind) n spans i; image = l .image }
+  accepted-front n spans = λ i. record { verdict = Accepted; header = sized (header-front b (l .order) (l .kind) n spans i); image = l .image }
 
   abbrev order : Order
   order = orderOf (frontOf b)

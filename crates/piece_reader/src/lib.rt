@@ -6,6 +6,8 @@ ghost use Prim.Native.Nat.{_≤_};
 ghost use lib.ListN.{length, take};
 ghost use Rattle.extension.specs.Walk.{extensionLimit, firstPlace};
 ghost use Rattle.extension.specs.Listing.{spansOf};
+ghost use Rattle.rules.specs.Rules.{Measured};
+ghost use Rattle.layout.specs.File.{shapeIn};
 ghost use Rattle.piece_walk.specs.Marks.{spansBy};
 ghost use Rattle.piece_reader.specs.Answer.{listedBy, answerOf};
 use extension::FIRST;
@@ -44,6 +46,7 @@ fn spans_in(marks: [Mark; LIMIT], count: usize) -> [Span; LIMIT]
 // Rules 13 to 15 of what stands where the walk has come to, now that the length is known; where they pass, the record.
 fn listed(front: &[u8], layout: Layout, taken: usize, walk: Walk) -> Reading
     requires { ⌜ 348 ≤ length (now front) ⌝ }
+    requires { ⌜ Measured (shapeIn (layout .order) (layout .kind) (now front)) ⌝ }
     ensures { λ r. ⌜ r ≡ listedBy (now (front .entry)) layout taken walk ⌝ }
 {
     if !layout::has_extensions(front) {

@@ -3,12 +3,12 @@
 -- extensions joined (`accepted-joined`); and its record.
 use Prim.Native.Nat.{ℕ, _+_, _≤_, _<_}
 use mathlib.Core.Path.{_≡_, refl, ap, sym, subst, _∙_}
-use mathlib.Core.Bool.{Bool, true, false, not, cond, _||_, and-eq-true-iff, false≢true, true≢false}
-use mathlib.Core.List.{List, [], _∷_}
+use mathlib.Core.Bool.{Bool, true, false, not, cond, _||_, false≢true, true≢false}
+use mathlib.Core.List.{List, []}
 use mathlib.Core.Logic.{_↔_}
 use native.Mathlib.Omega.{arith}
 use borrow.Author.Tests.{eqb-true, ltb-true, ltb-false, lt-ltb, le-ltb, not-false}
-use lib.Dec.{ltb, eqb}
+use lib.Dec.{ltb}
 use lib.IntN.{ℤ, pos, negsuc}
 use lib.ListN.{length, getD, List·getD-eq-default}
 use Rattle.field.specs.declared.Order.the-variants.{Little, Big}
@@ -35,9 +35,9 @@ use Rattle.header.proofs.Distinct.{single-never}
 use Rattle.rules.specs.declared.Shape.{Shape}
 use Rattle.rules.specs.declared.Image.{Image}
 use Rattle.rules.specs.Rules.{oneToSeven, offsetOutside, imageOf, cutShort, regionEnd}
-use Rattle.rules.specs.Rules.{fieldRows, shapeRows, shapeOfRecord, recordRows}
+use Rattle.rules.specs.Rules.{fieldRows, shapeRows, shapeOfRecord, recordRows, sizesOf}
 use Rattle.rules.proofs.Passed.{neither, Fields, clear-fields, fields-clear}
-use Rattle.layout.specs.File.{holdsIn, orderOf, sameBytes, hasMagic, kindOf, shapeIn, shapeOf, cutExtender, hasExtensions}
+use Rattle.layout.specs.File.{holdsIn, orderOf, hasMagic, kindOf, shapeIn, shapeOf, cutExtender, hasExtensions}
 use Rattle.layout.specs.File.{headRows, endRows, fileRows, layoutOf, endOf}
 use Rattle.layout.proofs.Starting.{either, either-kind}
 use Rattle.reader.specs.declared.Reading.{Reading}
@@ -52,16 +52,6 @@ regionOf s = restOf s (endOf s) firstPlace
 number-is : (z : ℤ) (n : ℕ) → isNumber z n ≡ true → z ≡ pos n
 number-is (pos m) n e = ap pos (eqb-true m n e)
 number-is (negsuc m) n e = absurd (false≢true e)
-
-pub same-is : (l m : List ℕ) → sameBytes l m ≡ true → l ≡ m
-same-is [] [] e = refl
-same-is [] (b ∷ m) e = absurd (false≢true e)
-same-is (a ∷ l) [] e = absurd (false≢true e)
-same-is (a ∷ l) (b ∷ m) e =
-    let p = and-eq-true-iff (eqb a b) (sameBytes l m) .0 e in
-    let h : a ≡ b = eqb-true a b (p .0) in
-    let t : l ≡ m = same-is l m (p .1) in
-    cc
 
 -- rules 1 to 12
 pub record Rules (s : List ℕ) : Type 0 where
@@ -323,6 +313,10 @@ module _ (s : List ℕ) (a : IsAccepted s) where
   pub accepted-shape : shapeOfRecord (readingOf s .header) ≡ shapeOf s
   unfolding headerOf shapeIn
   accepted-shape = ap (λ (r : Reading). shapeOfRecord (r .header)) accepted-reads
+
+  -- and the sizes that its dims and datatype give (02-change-requests.md, P4),
+  pub accepted-sizes : readingOf s .header .sizes ≡ sizesOf (readingOf s .header .dim) (readingOf s .header .intent .datatype)
+  accepted-sizes = rw accepted-reads
 
   -- and passes the rules of a record
   pub accepted-record : Clear (recordRows (readingOf s .header))

@@ -2,6 +2,8 @@
 ghost use mathlib.Core.Path.{_≡_};
 ghost use Rattle.extension.specs.Listing.{listingOf};
 ghost use Rattle.layout.specs.File.{checkedOf};
+ghost use Rattle.rules.specs.Rules.{shapeOfRecord, sized, Measured};
+ghost use Rattle.layout.specs.File.{shapeIn};
 ghost use Rattle.reader.specs.Reading.{extensionsOf, refusedWith, acceptedWith, readingOf};
 use extension::LIMIT;
 use extension::Listing;
@@ -55,8 +57,21 @@ pub fn refused(r: Refusal) -> Reading
     }
 }
 
+// A record with its sizes, once its dims, datatype and bitpix are judged.
+fn with_sizes(header: Header) -> Header
+    requires { ⌜ Measured (shapeOfRecord header) ⌝ }
+    ensures { λ r. ⌜ r ≡ sized header ⌝ }
+{
+    let dim = header.dim;
+    let intent = header.intent;
+    let mut out = header;
+    out.sizes = sizes::sizes_in(dim, intent.bitpix);
+    out
+}
+
 // The reading of an accepted file with this layout and these extensions.
 pub fn accepted(file: &[u8], layout: Layout, count: usize, spans: [Span; LIMIT]) -> Reading
+    requires { ⌜ Measured (shapeIn (layout .order) (layout .kind) (now file)) ⌝ }
     ensures { λ a. ⌜ a ≡ acceptedWith (now (file .entry)) layout count spans ⌝ }
 {
     let order = layout.order;
@@ -64,7 +79,7 @@ pub fn accepted(file: &[u8], layout: Layout, count: usize, spans: [Span; LIMIT])
     let image = layout.image;
     Reading {
         verdict: Verdict::Accepted,
-        header: header::parse(file, order, kind, count, spans),
+        header: with_sizes(header::parse(file, order, kind, count, spans)),
         image,
     }
 }

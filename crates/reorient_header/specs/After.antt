@@ -98,7 +98,7 @@ quaternAfter g =
       «qoffset_z» = g .«qoffset_z»;
     }
 
--- the whole record; "All else .. is copied"
+-- the whole record; "All else .. is copied". The sizes are the old ones here: the law `turned-reads` has them set right (`sized`, rules/Rules).
 unfoldable pub headerAfter : Turn → Header → Header
 headerAfter t h =
     record {
@@ -107,6 +107,7 @@ headerAfter t h =
       dim = dimsAfter t (h .dim);
       count = h .count;
       spans = h .spans;
+      sizes = h .sizes;
       key = keyAfter (h .key);
       intent = h .intent;
       scale = scaleAfter t (h .scale);

@@ -172,7 +172,7 @@ fn sform_after(header: Header, t: Turn) -> Rows
     rows_after(rows, dim, t)
 }
 
-// The whole record.
+// The whole record, with the sizes as they were: no byte of the new header depends on them.
 pub fn header_after(header: Header, t: Turn) -> Header
     requires { ⌜ isPermutation t ≡ true ⌝ }
     requires { ⌜ notFinite t header ≡ false ⌝ }
@@ -182,6 +182,7 @@ pub fn header_after(header: Header, t: Turn) -> Header
     let kind = header.kind;
     let dim = header.dim;
     let spans = header.spans;
+    let sizes = header.sizes;
     let key = header.key;
     let intent = header.intent;
     let scale = header.scale;
@@ -193,6 +194,7 @@ pub fn header_after(header: Header, t: Turn) -> Header
         dim: dims_after(dim, t),
         count: header.count,
         spans,
+        sizes,
         key: key_after(key),
         intent,
         scale: scale_after(scale, t),

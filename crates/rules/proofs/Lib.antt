@@ -1,3 +1,4 @@
 pub mod Judging
 pub mod Passed
 pub mod Seven
+pub mod Sizes

@@ -42,7 +42,7 @@ pub neither : (a b : Bool) → (a || b) ≡ false → (a ≡ false) × (b ≡ fa
 neither false b e = (refl, e)
 neither true b e = absurd (true≢false e)
 
-inside-limit : (kind : Kind) (n len : ℕ) → offsetOutside kind n len ≡ false → n ≤ offsetLimit
+pub inside-limit : (kind : Kind) (n len : ℕ) → offsetOutside kind n len ≡ false → n ≤ offsetLimit
 inside-limit Single n len e = ltb-false offsetLimit n (neither (ltb n 352) (ltb offsetLimit n) e .1)
 inside-limit Pair n len e = ltb-false offsetLimit n (neither (ltb offsetLimit n) (ltb offsetLimit len) e .0)
 

@@ -1,6 +1,8 @@
 -- The refusal table, rules 5 to 10: what is judged of a header's fields, whether they were read from a file or are about to
--- be written; and rules 11 and 16, which ask whether a file holds the image (01-scope.md, "Refusal numbers" and "The header rules").
+-- be written; the sizes of the image; and rules 11 and 16, which ask whether a file holds it (01-scope.md, "Refusal numbers" and "The
+-- header rules"; 02-change-requests.md, P4).
 use Prim.Native.Nat.{ℕ, _+_, _*_, _/_}
+use mathlib.Core.Path.{_≡_}
 use mathlib.Core.Bool.{Bool, true, false, not, _&&_, _||_}
 use mathlib.Core.List.{List, [], _∷_}
 use lib.Dec.{ltb, eqb}
@@ -13,7 +15,10 @@ use Rattle.datatype.specs.Datatypes.{datatypeOf, isNumber}
 use Rattle.offset.specs.Offset.{isWhole, wholeOf, offsetLimit}
 use Rattle.number.specs.Natural.{naturalOf}
 use Rattle.grid.specs.Axes.{dimAt, firstBelow, imageBytes, imageLimit}
+use Rattle.grid.specs.declared.Sizes.{Sizes}
+use Rattle.grid.specs.Sizes.{sizesBy, sameSizes, Measurable}
 use Rattle.header.specs.declared.Header.{Header}
+use Rattle.header.specs.Fields.{withSizes}
 use Rattle.header.specs.declared.Kind.{Kind}
 use Rattle.header.specs.declared.Kind.the-variants.{Single, Pair}
 use Rattle.rules.specs.declared.Shape.{Shape}
@@ -93,6 +98,25 @@ recordRows h = shapeRows (shapeOfRecord h)
 unfoldable pub recordJudged : Header → Judged
 recordJudged h = decided (verdict (recordRows h)) (Passed (imageOf (shapeOfRecord h))) Failed
 
+-- ---- The sizes of the image
+
+-- the bytes of a voxel of a datatype: none of one that is not in the table
+abbrev pub formatBytes : Datatype → ℕ
+formatBytes (Known t) = t .bytes
+formatBytes Unknown = 0
+
+-- P4: "the image byte total and the seven byte steps", as "the dims and datatype give" them
+unfoldable pub sizesOf : List ℤ → ℤ → Sizes
+sizesOf dim datatype = sizesBy dim (axisCount dim) (formatBytes (datatypeOf datatype))
+
+-- a record with the sizes that its own dims and datatype give
+abbrev pub sized : Header → Header
+sized h = withSizes (sizesOf (h .dim) (h .intent .datatype)) h
+
+-- "a stored size is wrong": one of the record's eight is not what they give
+abbrev pub wrongSizes : Header → Bool
+wrongSizes h = not (sameSizes (h .sizes) (sizesOf (h .dim) (h .intent .datatype)))
+
 -- ---- The image in its file
 
 -- "shorter than vox_offset + image bytes"
@@ -118,3 +142,10 @@ holder Pair file image = image
 abbrev pub regionEnd : Kind → Image → ℕ → ℕ
 regionEnd Single image len = image .offset
 regionEnd Pair image len = len
+
+-- ---- What only the steps between cite
+
+-- fields as rules 2 and 5 to 10 leave them: their sizes are small, and bitpix states the bytes of the datatype's voxel
+pub record Measured (f : Shape) : Type 0 where
+  pub small : Measurable (f .dim) (axisCount (f .dim)) (naturalOf (f .bitpix) / 8)
+  pub bytes : naturalOf (f .bitpix) / 8 ≡ formatBytes (datatypeOf (f .datatype))

@@ -48,7 +48,7 @@ pub fn axis_count(dim: &[i16]) -> usize
 }
 
 // Rule 9, for a whole voxel offset and the length of the header file.
-fn offset_outside(kind: Kind, offset: u64, len: usize) -> bool
+pub fn offset_outside(kind: Kind, offset: u64, len: usize) -> bool
     ensures { λ r. ⌜ r ≡ offsetOutside kind offset len ⌝ }
 {
     if offset::LIMIT < offset {

@@ -25,7 +25,7 @@ use Rattle.voxel.specs.declared.Extent.{Extent}
 use Rattle.voxel.specs.declared.Located.{Located}
 use Rattle.voxel.specs.declared.Located.the-variants.{At, Unlocated}
 use Rattle.voxel.specs.Voxel.{lengthsOf, locatedIn}
-use Rattle.voxel.proofs.Sized.{Formed, shape-formed}
+use Rattle.rules.proofs.Sizes.{Formed, shape-formed}
 use Rattle.voxel.proofs.Locating.{Found}
 use Rattle.by_file.specs.Files.{locatedOf, voxelOf}
 use Rattle.by_file.proofs.Voxels.{located-both, file-found, voxel-in-image, voxel-bytes-are, voxel-length, refused-empty}

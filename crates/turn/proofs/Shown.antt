@@ -1,4 +1,4 @@
--- A file whose outline is shown: its record without the extensions does as well as the whole one, and its image can be turned.
+-- A file whose outline is shown: its record without the extensions and sizes does as well as the whole one, and its image can be turned.
 use Prim.Native.Nat.{ℕ, _+_, _≤_}
 use mathlib.Core.Path.{_≡_, refl, sym, ap, _∙_}
 use mathlib.Core.Bool.{true, false}
@@ -15,11 +15,12 @@ use Rattle.buffer.specs.Put.{put}
 use Rattle.datatype.proofs.Sound.{known-sound}
 use Rattle.extension.specs.declared.Span.{Span}
 use Rattle.extension.specs.Listing.{spansOf}
+use Rattle.grid.specs.Sizes.{noSizes}
 use Rattle.grid.proofs.Axes.{voxels-positive, voxels-seven}
 use Rattle.header.specs.declared.Header.{Header}
 use Rattle.header.specs.declared.Kind.{Kind}
 use Rattle.header.specs.declared.Kind.the-variants.{Single, Pair}
-use Rattle.header.specs.Fields.{headerOf, withSpans}
+use Rattle.header.specs.Fields.{headerOf, withSpans, withSizes}
 use Rattle.encode.specs.Encode.{encode}
 use Rattle.rules.specs.Rules.{axisCount, imageOf, shapeOfRecord, recordRows, imageCut, holder}
 use Rattle.rules.proofs.Passed.{neither, clear-fields, image-held}
@@ -30,7 +31,7 @@ use Rattle.outline.specs.declared.Outline.{Outline}
 use Rattle.outline.specs.declared.Outlined.the-variants.{Shown, Hidden}
 use Rattle.outline.specs.Outline.{outlineOf}
 use Rattle.outline.proofs.Outlines.{hidden-reading, shows, shown-accepted, shown-header, shown-long}
-use Rattle.voxel.proofs.Sized.{shape-formed, shape-bounded}
+use Rattle.rules.proofs.Sizes.{shape-formed, shape-measured}
 use Rattle.reorient.specs.declared.Turn.{Turn}
 use Rattle.reorient.specs.Reorient.{isPermutation}
 use Rattle.reorient_header.specs.After.{notFinite, headerAfter, sformAfter}
@@ -66,23 +67,23 @@ pub allowed : (h : Header) (t : Turn) (file image out outImage : ℕ) → verdic
 allowed h t file image out outImage e = clear-allowed h t file image out outImage (accepted-clear (turnRows h t file image out outImage) e)
 
 -- ---- the image of a record that rules 2 and 5 to 10 pass
-pub sized : (h : Header) → Clear (recordRows h) → Sized h
-sized h (one two fields) =
+pub record-sized : (h : Header) → Clear (recordRows h) → Sized h
+record-sized h (one two fields) =
     let f = shapeOfRecord h in
     let n = axisCount (h .dim) in
     let t = clear-fields f 0 fields in
     let m = shape-formed f (one two fields) in
     record {
-      axes = shape-bounded f (one two fields) .axes;
+      axes = shape-measured f (one two fields) .small .axes;
       small = rw (m .bytes) (known-sound (f .datatype) (m .format) (m .known) .most);
       some = rw (voxels-seven (h .dim) n) (voxels-positive (h .dim) n (t .axes));
       bytes = t .small;
     }
 
--- ---- the extensions play no part
+-- ---- the extensions and the sizes play no part
 module _ (t : Turn) (h : Header) (count : ℕ) (spans : List Span) where
   abbrev bare : Header
-  bare = withSpans count spans h
+  bare = withSizes noSizes (withSpans count spans h)
 
   same-rows : (file image out outImage : ℕ) → turnRows bare t file image out outImage ≡ turnRows h t file image out outImage
   unfolding notFinite
@@ -111,13 +112,13 @@ module _ (s : List ℕ) (o : Outline) (e : outlineOf 0 s ≡ Shown o) where
   abbrev read : Header
   read = readingOf s .header
 
-  -- the record with no extensions
+  -- the record with no extensions and no sizes
   abbrev pub parsed : Header
   parsed = headerOf (o .layout .order) (o .layout .kind) 0 (spansOf []) s
 
-  parsed-is : parsed ≡ withSpans 0 (spansOf []) read
+  parsed-is : parsed ≡ withSizes noSizes (withSpans 0 (spansOf []) read)
   unfolding headerOf
-  parsed-is = ap (withSpans 0 (spansOf [])) (shown-header s 0 o e)
+  parsed-is = ap (λ (h : Header). withSizes noSizes (withSpans 0 (spansOf []) h)) (shown-header s 0 o e)
 
   pub parsed-kind : o .layout .kind ≡ read .kind
   unfolding headerOf
@@ -131,7 +132,7 @@ module _ (s : List ℕ) (o : Outline) (e : outlineOf 0 s ≡ Shown o) where
       ∙ ap imageIn (sym parsed-is)
 
   pub parsed-sized : Sized parsed
-  parsed-sized = rw parsed-is (sized (withSpans 0 (spansOf []) read) (accepted-record s (shown-accepted s 0 o e)))
+  parsed-sized = rw parsed-is (record-sized (withSizes noSizes (withSpans 0 (spansOf []) read)) (accepted-record s (shown-accepted s 0 o e)))
 
   pub parsed-room : (t : Turn) (image : List ℕ) (out outImage : ℕ) → Allowed parsed t (length s) (length image) out outImage
       → Room parsed s image out outImage

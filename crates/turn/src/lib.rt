@@ -87,7 +87,7 @@ fn judge(
     Verdict::Accepted
 }
 
-// Turns an accepted file. Its record is read without the extensions: they are copied, and nothing is asked of them.
+// Turns an accepted file. Its record is read without the extensions, which are copied, and without the sizes: nothing is asked of either.
 fn turn_shown(
     file: &[u8],
     image: &[u8],

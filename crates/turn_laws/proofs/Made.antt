@@ -16,7 +16,7 @@ use Rattle.header.specs.declared.Kind.{Kind}
 use Rattle.header.specs.declared.Kind.the-variants.{Single, Pair}
 use Rattle.encode.proofs.Back.{Writable}
 use Rattle.rules.specs.declared.Shape.{Shape}
-use Rattle.rules.specs.Rules.{axisCount, imageOf, holder}
+use Rattle.rules.specs.Rules.{axisCount, imageOf, sized, holder}
 use Rattle.rules.proofs.Passed.{image-held}
 use Rattle.layout.specs.File.{kindOf, shapeIn}
 use Rattle.reader.specs.declared.Reading.{Reading}
@@ -31,7 +31,7 @@ use Rattle.reorient_file.proofs.Made.{length-holder, behind-header}
 use Rattle.turn.specs.declared.Lengths.{Lengths}
 use Rattle.turn.specs.declared.Turned.the-variants.{Made, Refused}
 use Rattle.turn.specs.Turned.{turnRows, imageLength, turnVerdict, lengthsAfter, turnAnswer, turnedOut, turnedOutImage}
-use Rattle.turn.proofs.Shown.{Allowed, allowed, sized}
+use Rattle.turn.proofs.Shown.{Allowed, allowed, record-sized}
 use Rattle.turn_laws.specs.Turns.{Turns}
 use Rattle.turn_laws.proofs.Reading.{new-length, new-reads}
 
@@ -86,7 +86,7 @@ module _ {file image : List ℕ} {t : Turn} {newFile newImage : List ℕ} (w : T
   length-image : (kind : Kind) → header .kind ≡ kind → imageLength kind (length image) ≡ length (imageBy kind t header image)
   length-image Single e = refl
   length-image Pair e =
-      sym (length-holder t header image (was-allowed .permutation) (sized header (accepted-record file was-accepted)) (rw e at held))
+      sym (length-holder t header image (was-allowed .permutation) (record-sized header (accepted-record file was-accepted)) (rw e at held))
 
   pub image-is : newImage ≡ imageAfter t header image
   unfolding turnedOutImage imageAfter
@@ -101,7 +101,7 @@ module _ {file image : List ℕ} {t : Turn} {newFile newImage : List ℕ} (w : T
 
   -- "the turned file is accepted": its record is the old one after the turn
   pub new-record : Writable header
-      → readingOf newFile ≡ record { verdict = Accepted; header = headerAfter t header; image = readingOf file .image }
+      → readingOf newFile ≡ record { verdict = Accepted; header = sized (headerAfter t header); image = readingOf file .image }
   new-record wr =
       let a = accepted-reads file was-accepted in
       let xs = accepted-list file was-accepted in
@@ -111,7 +111,7 @@ module _ {file image : List ℕ} {t : Turn} {newFile newImage : List ℕ} (w : T
       ap readingOf file-is
       ∙ ap (λ (r : Reading). readingOf (fileAfter t (r .header) file)) a
       ∙ new-reads file xs f t (was-allowed .permutation) old three
-      ∙ sym (ap (λ (r : Reading). record { verdict = Accepted; header = headerAfter t (r .header); image = r .image }) a)
+      ∙ sym (ap (λ (r : Reading). record { verdict = Accepted; header = sized (headerAfter t (r .header)); image = r .image }) a)
 
   -- ---- the image
 

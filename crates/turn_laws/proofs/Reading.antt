@@ -15,8 +15,11 @@ use Rattle.field.specs.Numbers.{bytesAt}
 use Rattle.field.proofs.Tabulate.{tabulate-same}
 use Rattle.number.proofs.Lists.{drop-take}
 use Rattle.number.specs.Natural.{naturalOf}
+use Rattle.number.specs.Same.{sameNumbers}
+use Rattle.number.proofs.Same.{same-is}
 use Rattle.offset.specs.Offset.{wholeOf}
 use Rattle.grid.specs.Axes.{dimAt}
+use Rattle.grid.specs.Sizes.{noSizes}
 use Rattle.buffer.proofs.Laws.{part-put, getD-put-before}
 use Rattle.extension.specs.declared.Span.{Span}
 use Rattle.extension.specs.Walk.{extensionLimit, firstPlace, restOf, listed, walk, extensionsIn}
@@ -24,18 +27,18 @@ use Rattle.extension.specs.Listing.{spansOf}
 use Rattle.header.specs.declared.Header.{Header}
 use Rattle.header.specs.declared.Kind.{Kind}
 use Rattle.header.specs.declared.Kind.the-variants.{Single, Pair}
-use Rattle.header.specs.Fields.{magicOf, headerOf}
+use Rattle.header.specs.Fields.{magicOf, headerOf, withSizes}
 use Rattle.encode.specs.Encode.{encode}
 use Rattle.encode.proofs.Widths.{length-encode}
-use Rattle.encode.proofs.Back.{Writable, header-read, read-writable}
+use Rattle.encode.proofs.Back.{Writable, sizes-writable, header-read, read-writable}
 use Rattle.rules.specs.declared.Shape.{Shape}
-use Rattle.rules.specs.Rules.{oneToSeven, axisCount, bytesOfImage, imageOf, shapeOfRecord, cutShort, regionEnd}
+use Rattle.rules.specs.Rules.{oneToSeven, axisCount, bytesOfImage, imageOf, shapeOfRecord, sized, cutShort, regionEnd}
 use Rattle.rules.proofs.Passed.{Fields}
-use Rattle.layout.specs.File.{holdsIn, orderOf, sameBytes, hasMagic, kindOf, shapeIn, shapeOf, layoutOf, endOf}
+use Rattle.layout.specs.File.{holdsIn, orderOf, hasMagic, kindOf, shapeIn, shapeOf, layoutOf, endOf}
 use Rattle.layout.specs.File.{extenderOf, saysSome, hasExtensions}
 use Rattle.reader.specs.declared.Reading.{Reading}
 use Rattle.reader.specs.Reading.{extensionsOf, readingOf, IsAccepted}
-use Rattle.reader.proofs.File.{same-is, extended-region, Rules, AcceptedFile, judged-file, file-judged, file-reads}
+use Rattle.reader.proofs.File.{extended-region, Rules, AcceptedFile, judged-file, file-judged, file-reads}
 use Rattle.reader.proofs.File.{accepted-file, shape-rows, accepted-reads}
 use Rattle.reader.proofs.Theorems.{never-both}
 use Rattle.reorient.specs.declared.Turn.{Turn}
@@ -44,7 +47,7 @@ use Rattle.reorient_header.specs.After.{entriesAfter, dimsAfter, rowsAfter, has
 use Rattle.reorient_header.proofs.Written.{after-writable}
 use Rattle.reorient_file.specs.Files.{holderAfter, withHeader, ownAfter, fileAfter}
 use Rattle.reorient_file.proofs.Made.{length-holder, behind-header}
-use Rattle.turn.proofs.Shown.{sized}
+use Rattle.turn.proofs.Shown.{record-sized}
 use Rattle.turn_laws.specs.Turns.{IsBytes}
 use Rattle.turn_laws.proofs.Axes.{first-after, bytes-after}
 
@@ -62,9 +65,9 @@ order-by Big s h = by (holdsIn Little s) (never-both s)
 kind-by : (k : Kind) (s : List ℕ) → bytesAt 344 4 s ≡ magicOf k → (kindOf s ≡ k) × (hasMagic k s ≡ true)
 unfolding kindOf hasMagic
 kind-by Single s e =
-    (ap (λ (b : List ℕ). cond (sameBytes b (magicOf Single)) Single Pair) e, ap (λ (b : List ℕ). sameBytes b (magicOf Single)) e)
+    (ap (λ (b : List ℕ). cond (sameNumbers b (magicOf Single)) Single Pair) e, ap (λ (b : List ℕ). sameNumbers b (magicOf Single)) e)
 kind-by Pair s e =
-    (ap (λ (b : List ℕ). cond (sameBytes b (magicOf Single)) Single Pair) e, ap (λ (b : List ℕ). sameBytes b (magicOf Pair)) e)
+    (ap (λ (b : List ℕ). cond (sameNumbers b (magicOf Single)) Single Pair) e, ap (λ (b : List ℕ). sameNumbers b (magicOf Pair)) e)
 
 -- the record of a file of bytes can be written
 magic-is : (s : List ℕ) → hasMagic (kindOf s) s ≡ true → bytesAt 344 4 s ≡ magicOf (kindOf s)
@@ -75,7 +78,7 @@ pub bytes-writable : (s : List ℕ) (a : IsAccepted s) → IsBytes s → Writabl
 bytes-writable s a all =
     let r = accepted-file s a .file .rules in
     subst (λ (x : Reading). Writable (x .header)) (sym (accepted-reads s a))
-    (read-writable (orderOf s) s all (kindOf s) _ _ (r .size) (magic-is s (r .magic)))
+    (sizes-writable _ (read-writable (orderOf s) s all (kindOf s) _ _ (r .size) (magic-is s (r .magic))))
 
 module _ (s : List ℕ) (xs : List Span) (f : AcceptedFile s xs) (t : Turn) (ht : isPermutation t ≡ true) where
   abbrev o : Order
@@ -85,7 +88,7 @@ module _ (s : List ℕ) (xs : List Span) (f : AcceptedFile s xs) (t : Turn) (ht 
   k = kindOf s
 
   abbrev old : Header
-  old = headerOf o k (length xs) (spansOf xs) s
+  old = sized (headerOf o k (length xs) (spansOf xs) s)
 
   abbrev new : List ℕ
   new = fileAfter t old s
@@ -97,7 +100,7 @@ module _ (s : List ℕ) (xs : List Span) (f : AcceptedFile s xs) (t : Turn) (ht 
 
   room : (kind : Kind) → k ≡ kind → length (ownAfter kind t old s) ≡ length s
   unfolding headerOf shapeIn
-  room Single e = length-holder t old s ht (sized old (shape-rows s (f .rules))) (ltb-false (length s) _ (rw e at (f .rules .whole)))
+  room Single e = length-holder t old s ht (record-sized old (shape-rows s (f .rules))) (ltb-false (length s) _ (rw e at (f .rules .whole)))
   room Pair e = refl
 
   length-own : length own ≡ length s
@@ -151,7 +154,7 @@ module _ (s : List ℕ) (xs : List Span) (f : AcceptedFile s xs) (t : Turn) (ht 
   module _ (w : Writable old) where
     -- ---- the header
 
-    new-header : headerOf o k (length xs) (spansOf xs) new ≡ headerAfter t old
+    new-header : headerOf o k (length xs) (spansOf xs) new ≡ withSizes noSizes (headerAfter t old)
     unfolding fileAfter withHeader headerAfter headerOf
     new-header = header-read (headerAfter t old) (drop 348 own) (after-writable t old w)
 
@@ -199,7 +202,7 @@ module _ (s : List ℕ) (xs : List Span) (f : AcceptedFile s xs) (t : Turn) (ht 
     module _ (three : 3 ≤ axisCount (old .dim)) where
       few : axisCount (old .dim) ≤ 7
       unfolding headerOf shapeIn
-      few = sized old (shape-rows s (f .rules)) .axes
+      few = record-sized old (shape-rows s (f .rules)) .axes
 
       new-bytes : bytesOfImage turned ≡ bytesOfImage shape
       unfolding shapeIn headerOf entriesAfter
@@ -262,12 +265,12 @@ module _ (s : List ℕ) (xs : List Span) (f : AcceptedFile s xs) (t : Turn) (ht 
       new-file = judged-file new xs (file-judged new xs rules-new walked-new)
 
       -- its reading
-      pub new-reads : readingOf new ≡ record { verdict = Accepted; header = headerAfter t old; image = imageOf (shapeOf s) }
+      pub new-reads : readingOf new ≡ record { verdict = Accepted; header = sized (headerAfter t old); image = imageOf (shapeOf s) }
       new-reads =
           file-reads new xs new-file
           ∙ (λ i. record {
             verdict = Accepted;
-            header = headerOf (new-order i) (new-kind i) (length xs) (spansOf xs) new;
+            header = sized (headerOf (new-order i) (new-kind i) (length xs) (spansOf xs) new);
             image = new-image i;
           })
-          ∙ (λ i. record { verdict = Accepted; header = new-header i; image = imageOf (shapeOf s) })
+          ∙ (λ i. record { verdict = Accepted; header = sized (new-header i); image = imageOf (shapeOf s) })

@@ -10,9 +10,9 @@ use lib.Seq.{take-at}
 use Rattle.grid.specs.Grid.{voxels}
 use Rattle.grid.proofs.Bounds.{seven-length}
 use Rattle.header.specs.declared.Header.{Header}
-use Rattle.encode.proofs.Back.{Writable}
+use Rattle.encode.proofs.Back.{Writable, sizes-writable}
 use Rattle.rules.specs.declared.Image.{Image}
-use Rattle.rules.specs.Rules.{axisCount, holder}
+use Rattle.rules.specs.Rules.{axisCount, sized, holder}
 use Rattle.reader.specs.declared.Reading.{Reading}
 use Rattle.reader.specs.Reading.{readingOf}
 use Rattle.reader.proofs.File.{accepted-record, record-image}
@@ -24,7 +24,7 @@ use Rattle.reorient_header.specs.After.{entriesAfter, dimsAfter, pixdimsAfter, 
 use Rattle.reorient_header.proofs.Written.{after-writable}
 use Rattle.reorient_file.specs.Files.{imageIn}
 use Rattle.reorient_file.proofs.Made.{image-voxels}
-use Rattle.turn.proofs.Shown.{sized}
+use Rattle.turn.proofs.Shown.{record-sized}
 use Rattle.turn_laws.specs.Turns.{Turns, imageBytesIn}
 use Rattle.turn_laws.proofs.Axes.{seven-after}
 use Rattle.turn_laws.proofs.Made.{was-accepted, was-allowed, held, new-record, offset, held-in, turnedImage, rest, image-dropped}
@@ -41,7 +41,7 @@ module _ {file image : List ℕ} {t : Turn} {newFile newImage : List ℕ} (w : T
   ht = was-allowed w .permutation
 
   few : axisCount (header .dim) ≤ 7
-  few = sized header (accepted-record file (was-accepted w)) .axes
+  few = record-sized header (accepted-record file (was-accepted w)) .axes
 
   pub seven : length ns ≡ 7
   seven = seven-length (header .dim) (axisCount (header .dim)) few
@@ -81,14 +81,14 @@ module _ {file image : List ℕ} {t u : Turn} {file′ image′ file″ image″
   abbrev old : Header
   old = readingOf file .header
 
-  first : readingOf file′ .header ≡ headerAfter t old
+  first : readingOf file′ .header ≡ sized (headerAfter t old)
   first = ap (λ (r : Reading). r .header) (new-record w wr)
 
   writable : Writable (readingOf file′ .header)
-  writable = subst Writable (sym first) (after-writable t old wr)
+  writable = subst Writable (sym first) (sizes-writable _ (after-writable t old wr))
 
-  second : readingOf file″ .header ≡ headerAfter u (headerAfter t old)
-  second = ap (λ (r : Reading). r .header) (new-record v writable) ∙ ap (headerAfter u) first
+  second : readingOf file″ .header ≡ sized (headerAfter u (sized (headerAfter t old)))
+  second = ap (λ (r : Reading). r .header) (new-record v writable) ∙ ap (λ (h : Header). sized (headerAfter u h)) first
 
   pub dims-twice : readingOf file″ .header .dim ≡ dimsAfter u (dimsAfter t (old .dim))
   unfolding headerAfter

@@ -13,6 +13,7 @@ ghost use Rattle.change.specs.declared.Change.the-variants.{Append, Replace, Re
 ghost use Rattle.edit.specs.Outcome.{outcomeOf, editAnswer, bufferAfter};
 ghost use Rattle.answers.specs.Answers.{voxelReply, swapReply, editReply, fileAnswer, extensionAnswer, sliceAnswer};
 ghost use Rattle.answers.specs.Answers.{positionAnswer};
+ghost use Rattle.voxel_answers.specs.Answers.{voxelIn};
 ghost use Rattle.pieces.specs.Pieces.{fresh, takenOf};
 ghost use Rattle.piece_reader.specs.Answer.{answerOf};
 ghost use Rattle.piece_answers.specs.Answers.{takenAnswer};
@@ -70,6 +71,34 @@ pub extern "C" fn vestumbral_voxel(
         (i1 ∷ i2 ∷ i3 ∷ i4 ∷ i5 ∷ i6 ∷ i7 ∷ [])) ⌝ }
 {
     answers::voxel_reply(by_file::locate(file, image, i1, i2, i3, i4, i5, i6, i7))
+}
+
+// The same of a file that was read before, by what vestumbral_read or vestumbral_pieces_file answered: the file is not read, and no dims are
+// multiplied. The struct's own refusal, then 2, 9, 16 for a pair, 17, 26.
+#[no_mangle]
+pub extern "C" fn vestumbral_voxel_in(
+    file: FileAnswer,
+    image_len: u64,
+    i1: u64,
+    i2: u64,
+    i3: u64,
+    i4: u64,
+    i5: u64,
+    i6: u64,
+    i7: u64,
+) -> Reply
+    ensures { λ a. ⌜ a ≡ voxelIn file «image_len» (i1 ∷ i2 ∷ i3 ∷ i4 ∷ i5 ∷ i6 ∷ i7 ∷ []) ⌝ }
+{
+    if file.refusal != 0 {
+        return voxel_answers::own_refusal(file.refusal, file.place);
+    }
+    let offset = file.data_offset;
+    let total = file.data_bytes;
+    let kind = voxel_answers::kind_by(file.pair);
+    let len = image_len as usize;
+    let index = [i1, i2, i3, i4, i5, i6, i7];
+    let located = voxel::locate_at(&file.dim, offset, total, &file.step, kind, len, &index);
+    answers::voxel_reply(located)
 }
 
 // A slice's state, rank and time: 1 to 15, then 17.

@@ -1,3 +1,4 @@
-pub mod Sized
 pub mod Locating
+pub mod Stepping
+pub mod Sized
 pub mod Theorems

@@ -1,69 +1,118 @@
--- Fields that rules 2 and 5 to 10 pass: how many axes there are, the bytes of a voxel, and how large the numbers are.
-use Prim.Native.Nat.{ℕ, _*_, _/_, _≤_}
-use mathlib.Core.Path.{_≡_, refl, sym, _∙_}
-use mathlib.Core.Bool.{true, false, not, and-eq-true-iff}
+-- Where the sizes are those of the dims and the datatype, and rules 2 and 5 to 10 pass, the sizes give the answer that the dims give.
+use Prim.Native.Nat.{ℕ, _+_, _*_, _≤_}
+use mathlib.Core.Path.{_≡_, refl, ap, sym, _∙_}
+use mathlib.Core.Bool.{Bool, true, false}
 use mathlib.Core.List.{List}
 use native.Mathlib.Omega.{arith}
-use borrow.Author.Tests.{leb-true, not-false}
-use lib.Dec.{leb}
-use lib.IntN.{ℤ}
-use Rattle.refusal.proofs.Rows.{Clear, one}
-use Rattle.number.specs.Natural.{naturalOf}
-use Rattle.datatype.specs.declared.Format.{Format}
-use Rattle.datatype.specs.declared.Datatype.the-variants.{Known}
-use Rattle.datatype.specs.Datatypes.{datatypeOf}
+use Rattle.refusal.specs.Table.{refusal, verdict, decided}
+use Rattle.refusal.proofs.Rows.{Clear, one, clear-accepted}
 use Rattle.datatype.proofs.Sound.{known-sound}
 use Rattle.offset.specs.Offset.{wholeOf}
-use Rattle.grid.specs.Grid.{voxels, within, voxelNumber}
-use Rattle.grid.specs.Axes.{dimAt, imageLimit, sevenAxes}
-use Rattle.grid.proofs.Axes.{voxels-limit, voxel-inside}
+use Rattle.grid.specs.declared.Sizes.{Sizes}
+use Rattle.grid.specs.Grid.{within, voxelNumber}
+use Rattle.grid.specs.Axes.{imageLimit}
+use Rattle.grid.specs.Sizes.{stepsTo, sizesBy, bytesBefore}
+use Rattle.grid.proofs.Axes.{voxel-inside}
+use Rattle.grid.proofs.Steps.{first-step, steps-before}
+use Rattle.header.specs.declared.Header.{Header}
 use Rattle.rules.specs.declared.Shape.{Shape}
-use Rattle.rules.specs.Rules.{oneToSeven, axisCount, imageOf, shapeRows}
-use Rattle.rules.proofs.Passed.{Fields, clear-fields, fields-offset}
-use Rattle.rules.proofs.Seven.{seven-natural}
-use Rattle.rules.proofs.Judging.{HasOffset, voxel-bytes}
-use Rattle.voxel.specs.Voxel.{bytesIn, Bounded}
+use Rattle.rules.specs.Rules.{axisCount, offsetOutside, imageOf, imageCut, shapeRows, shapeOfRecord, recordRows, sizesOf, Measured}
+use Rattle.rules.proofs.Passed.{Fields, clear-fields}
+use Rattle.rules.proofs.Sizes.{shape-formed, shape-measured, measured-sizes}
+use Rattle.voxel.specs.declared.Located.the-variants.{At, Unlocated}
+use Rattle.voxel.specs.Voxel.{lengthsIn, bytesIn, imageRowsIn, extentIn, locatedBy, locatedIn}
+use Rattle.voxel.specs.Steps.{Volume, firstStep, extentBy, strays, noAxes, steppedBy, steppedIn}
+use Rattle.voxel.proofs.Locating.{passed-located}
+use Rattle.voxel.proofs.Stepping.{stays, inside-stays, stepped-16, stepped-17, stepped-at, in-stepped}
 
--- rule 2: at most seven axes
-axes-few : (z : ℤ) → not (oneToSeven z) ≡ false → naturalOf z ≤ 7
-axes-few z e =
-    let n : ℕ = naturalOf z in
-    let p = and-eq-true-iff (leb 1 n) (leb n 7) .0 (sym (seven-natural z) ∙ not-false (oneToSeven z) e) in
-    leb-true n 7 (p .1)
+-- a voxel has a byte at least
+pub shape-some : (f : Shape) → Clear (shapeRows f) → 1 ≤ bytesIn f
+shape-some f c = let m = shape-formed f c in rw (m .bytes) (known-sound (f .datatype) (m .format) (m .known) .some)
 
--- rules 6 and 7: the datatype has a format, and a voxel has its bytes
-pub record Formed (f : Shape) : Type 0 where
-  pub format : Format
-  pub known : datatypeOf (f .datatype) ≡ Known format
-  pub bytes : bytesIn f ≡ format .bytes
+-- what fields are located by, with some sizes
+abbrev pub volumeWith : Shape → Sizes → Volume
+volumeWith f sizes = record { dim = f .dim; offset = wholeOf (f .«vox_offset»); sizes = sizes; kind = f .kind }
 
-fields-formed : (f : Shape) → Fields f 0 → Formed f
-fields-formed f t =
-    let at = wholeOf (f .«vox_offset») in
-    let o : HasOffset f (t .format) at =
-    record { format = record { axes = t .axes; known = t .known }; bits = t .bits; whole = t .whole; value = refl } in
-    record { format = t .format; known = t .known; bytes = voxel-bytes f 0 (t .format) at o }
+-- rules 2, 8 and 9 of fields that all of them pass
+passed-2 : (f : Shape) → Clear (shapeRows f) → noAxes (f .dim) ≡ false
+passed-2 f (one two fields) = two
 
-module _ (f : Shape) where
-  pub shape-formed : Clear (shapeRows f) → Formed f
-  shape-formed (one two fields) = fields-formed f (clear-fields f 0 fields)
+pub passed-fields : (f : Shape) → Clear (shapeRows f) → Fields f 0
+passed-fields f (one two fields) = clear-fields f 0 fields
 
-  pub shape-bounded : Clear (shapeRows f) → Bounded (f .dim) (f .bitpix) (imageOf f .offset)
-  shape-bounded (one two fields) =
-      let t = clear-fields f 0 fields in
-      let v = fields-formed f t in
-      record {
-        axes = axes-few (dimAt (f .dim) 0) two;
-        some = rw (v .bytes) (known-sound (f .datatype) (v .format) (v .known) .some);
-        bytes = t .small;
-        low = fields-offset f 0 t;
-      }
+module _ (f : Shape) (c : Clear (shapeRows f)) (len : ℕ) (index : List ℕ) where
+  abbrev n : ℕ
+  n = axisCount (f .dim)
 
--- the numbers of an image, and of a voxel in it
-module _ {dim : List ℤ} {bitpix : ℤ} {offset : ℕ} (b : Bounded dim bitpix offset) where
-  pub voxels-few : voxels (sevenAxes dim (axisCount dim)) ≤ imageLimit
-  voxels-few = voxels-limit dim (axisCount dim) (naturalOf bitpix / 8) (b .some) (b .bytes)
+  -- the sizes as bitpix gives them
+  abbrev v : Volume
+  v = volumeWith f (sizesBy (f .dim) n (bytesIn f))
 
-  pub voxel-below : (index : List ℕ) → within (sevenAxes dim (axisCount dim)) index ≡ true
-      → naturalOf bitpix / 8 * voxelNumber (sevenAxes dim (axisCount dim)) index ≤ imageLimit
-  voxel-below index w = omega (arith, voxel-inside dim (axisCount dim) (naturalOf bitpix / 8) index w, b .bytes)
+  measured : Measured f
+  measured = shape-measured f c
+
+  before-is : bytesBefore (v .sizes .steps) index ≡ bytesIn f * voxelNumber (lengthsIn f) index
+  unfolding sizesBy
+  before-is = steps-before (f .dim) n (bytesIn f) (measured .small .axes) index
+
+  length-is : firstStep v ≡ bytesIn f
+  unfolding sizesBy stepsTo
+  length-is = first-step (f .dim) n (bytesIn f)
+
+  -- a voxel whose index is inside is one of the image
+  kept : within (lengthsIn f) index ≡ true → strays v index ≡ false
+  unfolding sizesBy
+  kept inside =
+      inside-stays (v .sizes .total) (bytesBefore (v .sizes .steps) index) (firstStep v) (rw length-is (shape-some f c)) (measured .small .small)
+      (rw (before-is, length-is) (voxel-inside (f .dim) n (bytesIn f) index inside))
+
+  low : offsetOutside (f .kind) (wholeOf (f .«vox_offset»)) 0 ≡ false
+  low = passed-fields f c .inside
+
+  -- so the sizes give what the dims give
+  pub stepped-located : steppedBy v len index ≡ locatedBy f len index
+  unfolding steppedBy verdict sizesBy
+  stepped-located =
+      by (imageCut (f .kind) len (imageOf f)) (within (lengthsIn f) index) refl refl
+      ∙ sym (passed-located f len index (clear-accepted c))
+    where
+      by : (t u : Bool) → imageCut (f .kind) len (imageOf f) ≡ t → within (lengthsIn f) index ≡ u
+          → steppedBy v len index ≡ decided (verdict (imageRowsIn f len index)) (At (extentIn f index)) Unlocated
+      by true u cut e = rw (passed-2 f c, low, cut)
+      by false false cut e = rw (passed-2 f c, low, cut, e)
+      by false true cut e =
+          rw (passed-2 f c, low, cut, e, kept e)
+          (λ i. At (record { place = wholeOf (f .«vox_offset») + before-is i; length = length-is i }))
+
+  -- rule by rule, for a caller that has judged 2, 5 to 10 by itself
+  pub located-16 : imageCut (f .kind) len (imageOf f) ≡ true → Unlocated (refusal 16 0) ≡ locatedBy f len index
+  unfolding sizesBy
+  located-16 cut = stepped-16 v len index (passed-2 f c) low cut ∙ stepped-located
+
+  module _ (whole : imageCut (f .kind) len (imageOf f) ≡ false) where
+    pub located-17 : within (lengthsIn f) index ≡ false → Unlocated (refusal 17 0) ≡ locatedBy f len index
+    unfolding sizesBy
+    located-17 out = stepped-17 v len index (passed-2 f c) low whole out ∙ stepped-located
+
+    pub located-at : within (lengthsIn f) index ≡ true → At (extentBy v index) ≡ locatedBy f len index
+    unfolding sizesBy
+    located-at inside = stepped-at v len index (passed-2 f c) low whole inside (kept inside) ∙ stepped-located
+
+  -- and its bytes are before the image's end
+  pub located-small : within (lengthsIn f) index ≡ true → bytesBefore (v .sizes .steps) index ≤ imageLimit
+  unfolding sizesBy
+  located-small inside =
+      let k = stays (v .sizes .total) (bytesBefore (v .sizes .steps) index) (firstStep v) (kept inside) in
+      omega arith
+
+  right-located : steppedBy (volumeWith f (sizesOf (f .dim) (f .datatype))) len index ≡ locatedBy f len index
+  right-located = ap (λ (z : Sizes). steppedBy (volumeWith f z) len index) (sym (measured-sizes f measured)) ∙ stepped-located
+
+-- and so do those of a record
+pub in-located : (h : Header) → Clear (recordRows h) → h .sizes ≡ sizesOf (h .dim) (h .intent .datatype) → (len : ℕ) (index : List ℕ)
+    → steppedIn h len index ≡ locatedIn h len index
+in-located h c right len index =
+    let f = shapeOfRecord h in
+    sym (in-stepped h len index (passed-fields f c .whole))
+    ∙ ap (λ (z : Sizes). steppedBy (volumeWith f z) len index) right
+    ∙ right-located f c len index

@@ -1,1 +1,2 @@
 pub mod Voxel
+pub mod Steps

@@ -1,13 +1,13 @@
--- Where a voxel's bytes are, by the fields that rules 5 to 10 judge (01-scope.md, "Voxels and byte order", rules 16 and 17).
-use Prim.Native.Nat.{ℕ, _+_, _*_, _/_, _≤_}
-use mathlib.Core.Bool.{cond, not}
+-- Where a voxel's bytes are, by the fields that rules 5 to 10 judge (01-scope.md, "Voxels and byte order", rules 16 and 17): what the calls on
+-- a file answer. Steps.antt has it by the sizes that a record keeps.
+use Prim.Native.Nat.{ℕ, _+_, _*_, _/_}
+use mathlib.Core.Bool.{not}
 use mathlib.Core.List.{List, [], _∷_, _++_}
-use lib.IntN.{ℤ}
-use Rattle.refusal.specs.Table.{Row, row, refusal, verdict, decided}
+use Rattle.refusal.specs.Table.{Row, row, verdict, decided}
 use Rattle.number.specs.Natural.{naturalOf}
-use Rattle.offset.specs.Offset.{wholeOf, offsetLimit}
+use Rattle.offset.specs.Offset.{wholeOf}
 use Rattle.grid.specs.Grid.{within, voxelNumber}
-use Rattle.grid.specs.Axes.{imageBytes, imageLimit, sevenAxes}
+use Rattle.grid.specs.Axes.{sevenAxes}
 use Rattle.header.specs.declared.Header.{Header}
 use Rattle.rules.specs.declared.Shape.{Shape}
 use Rattle.rules.specs.Rules.{axisCount, imageOf, shapeRows, shapeOfRecord, imageCut}
@@ -45,7 +45,7 @@ extentIn f index =
 unfoldable pub locatedBy : Shape → ℕ → List ℕ → Located
 locatedBy f len index = decided (verdict (voxelRows f len index)) (At (extentIn f index)) Unlocated
 
--- ---- The same of a record that was read before
+-- ---- The same of a record's fields
 
 abbrev pub lengthsOf : Header → List ℕ
 lengthsOf h = lengthsIn (shapeOfRecord h)
@@ -61,20 +61,3 @@ extentOf h index = extentIn (shapeOfRecord h) index
 
 abbrev pub locatedIn : Header → ℕ → List ℕ → Located
 locatedIn h len index = locatedBy (shapeOfRecord h) len index
-
--- ---- What only the steps between cite
-
--- dims, a bitpix and an offset as rules 2 and 5 to 10 let them be: the places of their voxels are small numbers
-pub record Bounded (dim : List ℤ) (bitpix : ℤ) (offset : ℕ) : Type 0 where
-  pub axes : axisCount dim ≤ 7
-  pub some : 1 ≤ naturalOf bitpix / 8
-  pub bytes : imageBytes dim (axisCount dim) (naturalOf bitpix / 8) ≤ imageLimit
-  pub low : offset ≤ offsetLimit
-
--- 17, or else the place: where the rules before it have passed
-abbrev pub placedBy : List ℤ → ℤ → ℕ → List ℕ → Located
-placedBy dim bitpix offset index =
-    let lengths = sevenAxes dim (axisCount dim) in
-    let bytes = naturalOf bitpix / 8 in
-    cond (within lengths index) (At (record { place = offset + bytes * voxelNumber lengths index; length = bytes }))
-    (Unlocated (refusal 17 0))

@@ -1,13 +1,15 @@
-// Where a voxel's bytes are, by a record or by the fields that are asked for (01-scope.md, "Voxels and byte order",
-// rules 16 and 17). An index is seven numbers, and any unsigned number is taken.
+// Where a voxel's bytes are, by the sizes that a record keeps (02-change-requests.md, P4; 01-scope.md, "Voxels and byte order"): no dims are
+// multiplied. An index is seven numbers, and any unsigned number is taken.
 ghost use mathlib.Core.Path.{_≡_};
 ghost use mathlib.Core.List.{[], _∷_};
-ghost use Rattle.rules.specs.Rules.{recordJudged};
-ghost use Rattle.voxel.specs.Voxel.{locatedIn, Bounded, placedBy};
+ghost use Prim.Native.Nat.{_<_};
+ghost use lib.ListN.{length};
+ghost use Rattle.voxel.specs.Steps.{volume, straysBy, noAxes, steppedBy, unplacedBy, steppedIn};
 use header::Header;
+use header::Kind;
+use offset::Offset;
 use refusal::Refusal;
 use rules::Image;
-use rules::Judged;
 
 // A voxel's bytes: the place of the first, in the file that holds the image, and how many there are.
 pub struct Extent {
@@ -20,57 +22,109 @@ pub enum Located {
     Unlocated(Refusal),
 }
 
-fn unlocated(number: u64, place: usize) -> Located
+pub fn unlocated(number: u64, place: usize) -> Located
     ensures { λ r. ⌜ r ≡ Located.Unlocated (record { number = number; place = place }) ⌝ }
 {
     Located::Unlocated(Refusal { number, place })
 }
 
-// Rule 17, and the voxel's place, by the fields that these ask for; `offset` is the voxel offset as a whole number.
-pub fn locate_inside(dim: [i16; 8], bitpix: i16, offset: u64, index: [u64; 7]) -> Located
-    requires { ⌜ Bounded dim bitpix offset ⌝ }
-    ensures { λ r. ⌜ r ≡ placedBy dim bitpix offset index ⌝ }
+// Rule 2.
+fn no_axes(dim: &[i16]) -> bool
+    requires { ⌜ 0 < length (now dim) ⌝ }
+    ensures { λ r. ⌜ r ≡ noAxes (now (dim .entry)) ⌝ }
 {
-    let n = rules::axis_count(&dim);
-    let lengths = grid::seven(&dim, n);
-    if !grid::is_within(lengths, index) {
-        return unlocated(17, 0);
-    }
-    // The bytes of a voxel, as bitpix states them.
-    let bytes = number::natural(bitpix) / 8;
-    let before = grid::voxel_number(lengths, index);
-    Located::At(Extent {
-        place: offset + bytes * before,
-        length: bytes,
-    })
+    let n = dim[0];
+    !((1 <= n) & (n <= 7))
 }
 
-// Rules 16 and 17 of a record that the rules before them pass.
-fn locate_passed(header: Header, image: Image, len: usize, index: [u64; 7]) -> Located
-    requires { ⌜ recordJudged header ≡ Judged.Passed image ⌝ }
-    ensures { λ r. ⌜ r ≡ locatedIn header len index ⌝ }
+// 26: whether a voxel of `length` bytes from byte `start` of an image of `total` bytes on is none of it.
+fn strays(total: u64, start: u64, length: u64) -> bool
+    ensures { λ r. ⌜ r ≡ straysBy total start length ⌝ }
 {
-    let kind = header.kind;
+    if length < 1 {
+        return true;
+    }
+    if grid::LIMIT < total {
+        return true;
+    }
+    if total < length {
+        return true;
+    }
+    total - length < start
+}
+
+// The voxel of an index, by how the axes go, where the image is and its sizes, with an image file of `len` bytes. `dim` and
+// `steps` may be lent from one struct.
+pub fn locate_at<'a>(
+    dim: &'a [i16],
+    offset: u64,
+    total: u64,
+    steps: &'a [u64],
+    kind: Kind,
+    len: usize,
+    index: &[u64],
+) -> Located
+    requires { ⌜ (0 < length (now dim)) × (length (now steps) ≡ 7) × (length (now index) ≡ 7) ⌝ }
+    ensures { λ r.
+        ⌜ r ≡ steppedBy (volume (now (dim .entry)) offset total (now (steps .entry)) kind) len (now (index .entry)) ⌝ }
+{
+    if no_axes(dim) {
+        return unlocated(2, 40);
+    }
+    // Before 9 and 16, so that the compiler holds fewer numbers at a time.
+    let before = sizes::bytes_before(dim, rules::axis_count(dim), steps, index);
+    if rules::offset_outside(kind, offset, 0) {
+        return unlocated(9, 108);
+    }
+    let image = Image {
+        offset,
+        bytes: total,
+    };
     if bounds::image_cut(kind, len, image) {
         return unlocated(16, 0);
     }
-    let dim = header.dim;
-    let intent = header.intent;
-    locate_inside(dim, intent.bitpix, image.offset, index)
+    if before == sizes::OUTSIDE {
+        return unlocated(17, 0);
+    }
+    let length = steps[0];
+    if strays(total, before, length) {
+        return unlocated(26, 0);
+    }
+    Located::At(Extent {
+        place: offset + before,
+        length,
+    })
 }
 
-// The voxel of a record, with an image file of `len` bytes.
-pub fn locate_record(header: Header, len: usize, index: [u64; 7]) -> Located
-    ensures { λ r. ⌜ r ≡ locatedIn header len index ⌝ }
+// 2, or else a refusal of the voxel offset.
+fn unplaced(dim: &[i16], number: u64) -> Located
+    requires { ⌜ 0 < length (now dim) ⌝ }
+    ensures { λ r. ⌜ r ≡ unplacedBy (now (dim .entry)) number ⌝ }
 {
-    let judged = rules::judge_record(header);
-    match judged {
-        Judged::Failed(r) => Located::Unlocated(r),
-        Judged::Passed(image) => locate_passed(header, image, len, index),
+    if no_axes(dim) {
+        return unlocated(2, 40);
+    }
+    unlocated(number, 108)
+}
+
+// The same by a record.
+fn locate_record(header: Header, len: usize, index: [u64; 7]) -> Located
+    ensures { λ r. ⌜ r ≡ steppedIn header len index ⌝ }
+{
+    let dim = header.dim;
+    let scale = header.scale;
+    let sizes = header.sizes;
+    let steps = sizes.steps;
+    let kind = header.kind;
+    let offset = offset::decode(scale.vox_offset);
+    match offset {
+        Offset::NotWhole => unplaced(&dim, 8),
+        Offset::TooLarge => unplaced(&dim, 9),
+        Offset::Whole(at) => locate_at(&dim, at, sizes.total, &steps, kind, len, &index),
     }
 }
 
-// The same by seven numbers: the voxel of a file that was read before.
+// The voxel of a file that was read before, with an image file of `image_len` bytes.
 pub fn locate_in(
     header: Header,
     image_len: usize,
@@ -82,7 +136,7 @@ pub fn locate_in(
     i6: u64,
     i7: u64,
 ) -> Located
-    ensures { λ r. ⌜ r ≡ locatedIn header «image_len» (i1 ∷ i2 ∷ i3 ∷ i4 ∷ i5 ∷ i6 ∷ i7 ∷ []) ⌝ }
+    ensures { λ r. ⌜ r ≡ steppedIn header «image_len» (i1 ∷ i2 ∷ i3 ∷ i4 ∷ i5 ∷ i6 ∷ i7 ∷ []) ⌝ }
 {
     locate_record(header, image_len, [i1, i2, i3, i4, i5, i6, i7])
 }

@@ -4,7 +4,7 @@ use mathlib.Core.List.{List, [], _∷_}
 use Rattle.header.specs.declared.Header.{Header}
 use Rattle.voxel.specs.declared.Located.{Located}
 use Rattle.voxel.specs.declared.Located.the-variants.{At, Unlocated}
-use Rattle.voxel.specs.Voxel.{locatedIn}
+use Rattle.voxel.specs.Steps.{steppedIn}
 use Rattle.by_file.specs.Files.{locatedOf}
 
 -- a refused voxel counts as 0
@@ -23,7 +23,7 @@ most f (suc k) = max (most f k) (placeOf (f k))
 
 -- by a record and no image file,
 abbrev pub farthestIn : Header → ℕ → ℕ
-farthestIn h count = most (λ k. locatedIn h 0 (along k)) count
+farthestIn h count = most (λ k. steppedIn h 0 (along k)) count
 
 -- and by a file and no image file
 abbrev pub farthest : List ℕ → ℕ → ℕ

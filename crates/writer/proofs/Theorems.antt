@@ -2,9 +2,11 @@
 -- written to any buffer that has room it puts the file's first 348 bytes there and leaves the rest.
 use Prim.Native.Nat.{ℕ, _≤_, _<_}
 use mathlib.Core.Path.{_≡_, ap, _∙_}
+use mathlib.Core.Bool.{false}
 use mathlib.Core.List.{List, _++_}
 use borrow.Author.Tests.{le-ltb}
 use lib.ListN.{length, getD, take, drop}
+use Rattle.number.proofs.Same.{same-is}
 use Rattle.field.specs.Numbers.{bytesAt}
 use Rattle.refusal.specs.declared.Verdict.the-variants.{Accepted}
 use Rattle.refusal.proofs.Rows.{none, one, clear-accepted, clear-append}
@@ -13,14 +15,16 @@ use Rattle.layout.specs.File.{orderOf, kindOf, hasMagic}
 use Rattle.encode.specs.Encode.{encode}
 use Rattle.encode.proofs.Round.{header-back}
 use Rattle.extension.specs.Listing.{spansOf}
-use Rattle.header.specs.Fields.{magicOf}
+use Rattle.header.specs.Fields.{magicOf, headerOf}
+use Rattle.rules.specs.Rules.{wrongSizes}
+use Rattle.rules.proofs.Sizes.{sizes-self}
 use Rattle.reader.specs.declared.Reading.{Reading}
-use Rattle.reader.proofs.File.{accepted-file, accepted-list, accepted-reads, accepted-record, same-is}
+use Rattle.reader.proofs.File.{accepted-file, accepted-list, accepted-reads, accepted-record, accepted-sizes}
 use Rattle.writer.specs.Write.{writeAnswer, written}
 
 -- the record of an accepted file states the file's own bytes
 pub accepted-back : (s : List ℕ) (a : IsAccepted s) → ((i : ℕ) → getD s i 0 < 256) → encode (readingOf s .header) ≡ take 348 s
-unfolding hasMagic
+unfolding hasMagic encode headerOf
 accepted-back s a all =
     let r = accepted-file s a .file .rules in
     let xs = accepted-list s a in
@@ -31,7 +35,9 @@ accepted-back s a all =
 module _ (s : List ℕ) (a : IsAccepted s) (l : List ℕ) (room : 348 ≤ length l) where
   pub write-accepts : writeAnswer (readingOf s .header) (length l) ≡ Accepted
   unfolding writeAnswer
-  write-accepts = clear-accepted (clear-append (accepted-record s a) (one (le-ltb (length l) 348 room) none))
+  write-accepts =
+      let right : wrongSizes (readingOf s .header) ≡ false = rw (accepted-sizes s a, sizes-self) in
+      clear-accepted (clear-append (accepted-record s a) (one right (one (le-ltb (length l) 348 room) none)))
 
   pub written-back : ((i : ℕ) → getD s i 0 < 256) → written (readingOf s .header) l ≡ take 348 s ++ drop 348 l
   unfolding written

@@ -1,4 +1,5 @@
 -- `parse_front` meets its contract: each group is the one that its bytes state.
+use Rattle.grid.specs.Sizes.{noSizes}
 use Rattle.header.specs.Fields.{headerOf}
 use borrow.Author.Needs.{needs}
 use Rattle.header.proofs.parse_front.Statement.{statement}
@@ -41,6 +42,7 @@ returns c =
       dim = c0 .dims .ensures i;
       count = a .count;
       spans = a .spans;
+      sizes = noSizes;
       key = c1 .read-key .ensures i;
       intent = c2 .read-intent .ensures i;
       scale = c3 .read-scale .ensures i;

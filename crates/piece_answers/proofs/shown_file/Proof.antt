@@ -12,13 +12,13 @@ big-endian-requires c κs = search needs
 is-pair-requires : tie.Need-is-pair-requires
 is-pair-requires c κs = search needs
 
-cast-t9 : tie.Need-cast-t9
-cast-t9 c = search needs
+cast-t11 : tie.Need-cast-t11
+cast-t11 c = search needs
 
 returns : tie.Need-returns
 returns c =
     let b = c .before .before in
-    let a = b .before .before .before .before .args in
+    let a = b .before .before .before .before .before .before .args in
     let h = a .header in
     let datatype : toZ w16 (ofZ w16 (h .intent .datatype)) ≡ h .intent .datatype = search needs in
     let bitpix : toZ w16 (ofZ w16 (h .intent .bitpix)) ≡ h .intent .bitpix = search needs in
@@ -33,7 +33,8 @@ returns c =
       datatype = datatype i;
       bitpix = bitpix i;
       extensions = h .count;
+      step = h .sizes .steps;
     }
 
 pub shown-file-spec : {M : Type 1} → statement M
-shown-file-spec = tie.close (tie.spec big-endian-requires is-pair-requires cast-t9 returns)
+shown-file-spec = tie.close (tie.spec big-endian-requires is-pair-requires cast-t11 returns)

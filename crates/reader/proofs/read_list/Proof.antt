@@ -1,6 +1,8 @@
 -- `read_list` meets its contract: the list's answer decides, by the laws of proofs/Answers.antt.
 use mathlib.Core.Path.{_∙_}
 use denote.Ref.{now}
+use lib.ListN.{length}
+use Rattle.layout.proofs.Checking.{checked-measured}
 use Rattle.reader.proofs.Answers.{reads-refused, reads-accepted}
 use borrow.Author.Needs.{needs}
 use Rattle.reader.proofs.read_list.Statement.{statement}
@@ -19,7 +21,9 @@ enum-told : tie.Need-enum-told
 enum-told c = search needs
 
 accepted-requires : tie.Need-accepted-requires
-accepted-requires c κs = search needs
+accepted-requires c κs =
+    let S = c .before .before .before .before .before in
+    checked-measured (now (S .args .file)) (length (now (S .args .file))) (S .args .layout) (S .pre)
 
 returns : tie.Need-returns
 returns c =

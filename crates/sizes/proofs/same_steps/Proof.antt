@@ -1,20 +1,20 @@
--- `grid::is_within` meets its contract. What is left to test, on the axes from k on, decides the whole; each turn tests one axis more.
+-- `same_steps` meets its contract: what is left to compare, from k on, decides the whole.
 use mathlib.Core.Path.{_≡_, refl, sym, _∙_}
 use Prim.Native.Nat.{_-_, _≤_}
 use native.Mathlib.Omega.{arith}
 use lib.ListN.{drop}
 use borrow.Author.Needs.{needs}
-use borrow.Author.Tests.{le-ltb, lt-ltb}
-use Rattle.grid.specs.Grid.{within}
-use Rattle.grid.proofs.Voxels.{within-next, within-end}
-use Rattle.grid.proofs.is_within.Statement.{statement}
-use Rattle.grid.proofs.is_within.Tie as tie
+use borrow.Author.Tests.{ne-eqb, eq-eqb}
+use Rattle.number.specs.Same.{sameNumbers}
+use Rattle.number.proofs.Same.{same-next, same-end}
+use Rattle.sizes.proofs.same_steps.Statement.{statement}
+use Rattle.sizes.proofs.same_steps.Tie as tie
 
 abbrev Inv-loop : tie.InvT-loop
-Inv-loop lengths index k₀ k = (k ≤ 7) × (within lengths index ≡ within (drop k lengths) (drop k index))
+Inv-loop a b k₀ k = (k ≤ 7) × (sameNumbers a b ≡ sameNumbers (drop k a) (drop k b))
 
 abbrev μ-loop : tie.MeasureT-loop
-μ-loop lengths index k₀ k = 7 - k
+μ-loop a b k₀ k = 7 - k
 
 loop-holds : tie.Need-loop-holds Inv-loop μ-loop
 loop-holds c = (omega arith, refl)
@@ -35,7 +35,7 @@ returns : tie.Need-returns Inv-loop μ-loop
 returns c =
     let lo = c .before .before in
     let a = lo .before .args in
-    sym (lo .loop .inv .1 ∙ within-next (a .t1) (a .t2) (lo .loop .k) (omega arith) (omega arith) ∙ rw (le-ltb _ _ (c .if1 .taken)))
+    sym (lo .loop .inv .1 ∙ same-next (a .t1) (a .t2) (lo .loop .k) (omega arith) (omega arith) ∙ rw (ne-eqb _ _ (c .if1 .taken)))
 
 add-k : tie.Need-add-k Inv-loop μ-loop
 add-k c = search needs
@@ -47,16 +47,16 @@ loop-again : tie.Need-loop-again Inv-loop μ-loop
 loop-again c =
     let lo = c .before .before in
     let a = lo .before .args in
-    (omega arith, lo .loop .inv .1 ∙ within-next (a .t1) (a .t2) (lo .loop .k) (omega arith) (omega arith) ∙ rw (lt-ltb _ _ (c .if1 .left)))
+    (omega arith, lo .loop .inv .1 ∙ same-next (a .t1) (a .t2) (lo .loop .k) (omega arith) (omega arith) ∙ rw (eq-eqb _ _ (c .if1 .left)))
 
 returns-2 : tie.Need-returns-2 Inv-loop μ-loop
 returns-2 c =
     let lo = c .before in
     let a = lo .before .args in
-    sym (lo .loop .inv .1 ∙ within-end (a .t1) (a .t2) (lo .loop .k) (omega arith) (omega arith))
+    sym (lo .loop .inv .1 ∙ same-end (a .t1) (a .t2) (lo .loop .k) (omega arith) (omega arith))
 
-pub is-within-spec : {M : Type 1} → statement M
-is-within-spec =
+pub same-steps-spec : {M : Type 1} → statement M
+same-steps-spec =
     tie.close
     (tie.spec
     Inv-loop
