@@ -12,8 +12,9 @@
 #include <sys/mman.h>
 
 _Static_assert(sizeof(vestumbral_reply) == 24, "reply");
-_Static_assert(sizeof(vestumbral_file) == 64 && offsetof(vestumbral_file, dim) == 40, "file");
+_Static_assert(sizeof(vestumbral_file) == 120 && offsetof(vestumbral_file, dim) == 40, "file");
 _Static_assert(offsetof(vestumbral_file, datatype) == 56 && offsetof(vestumbral_file, extensions) == 60, "file");
+_Static_assert(offsetof(vestumbral_file, step) == 64 && VESTUMBRAL_INTERFACE == 2, "file");
 _Static_assert(sizeof(vestumbral_extension) == 32 && offsetof(vestumbral_extension, code) == 28, "extension");
 _Static_assert(sizeof(vestumbral_slice) == 32 && offsetof(vestumbral_slice, seconds) == 24, "slice");
 _Static_assert(sizeof(vestumbral_position) == 32 && offsetof(vestumbral_position, z) == 24, "position");
@@ -119,13 +120,21 @@ static void as_whole(vestumbral_pieces pieces, const uint8_t *file, size_t lengt
     CHECK(memcmp(&one, &same, sizeof one) == 0);
 }
 
+static int steps_are(vestumbral_file file, const uint64_t steps[7])
+{
+    return memcmp(file.step, steps, sizeof file.step) == 0;
+}
+
+#define STEPS(...) ((const uint64_t[7]){__VA_ARGS__})
+
 /* Every call with `length` bytes, 0 or 1, at this pointer, which may be NULL only for 0. */
 static void too_short(uint8_t *bytes, size_t length)
 {
     vestumbral_file file = vestumbral_read(bytes, length);
     REFUSED(file, 1, 0);
     CHECK(file.data_offset == 0 && file.data_bytes == 0 && file.big_endian == 0 && file.pair == 0 && file.extensions == 0);
-    CHECK(file.dim[0] == 0 && file.dim[7] == 0 && file.datatype == 0 && file.bitpix == 0);
+    CHECK(file.dim[0] == 0 && file.dim[7] == 0 && file.datatype == 0 && file.bitpix == 0 && steps_are(file, STEPS(0)));
+    CHECK(refused(vestumbral_voxel_in(file, UINT64_MAX, 0, 0, 0, 0, 0, 0, 0), 1));
     vestumbral_extension extension = vestumbral_extension_at(bytes, length, 0);
     REFUSED(extension, 1, 0);
     CHECK(extension.start == 0 && extension.size == 0 && extension.code == 0);
@@ -158,13 +167,16 @@ static void reading(enum source source)
     REFUSED(file, 0, 0);
     CHECK(file.data_offset == 352 && file.data_bytes == 12 && file.big_endian == 0 && file.pair == 0 && file.extensions == 0);
     CHECK(file.dim[0] == 2 && file.dim[1] == 3 && file.dim[2] == 2 && file.dim[3] == 0 && file.datatype == 4 && file.bitpix == 16);
+    CHECK(steps_are(file, STEPS(2, 6, 12, 12, 12, 12, 12)));
     REFUSED(vestumbral_extension_at(a, 364, 0), 18, 0);
     CHECK(done(vestumbral_voxel(a, 364, NULL, 0, 2, 1, 0, 0, 0, 0, 0), 362, 2));
     CHECK(refused(vestumbral_voxel(a, 364, NULL, 0, 3, 0, 0, 0, 0, 0, 0), 17));
     CHECK(refused(vestumbral_voxel(a, 364, NULL, 0, 0, 0, 0, 0, 0, 0, UINT64_MAX), 17));
     put16(a + 46, 0xffff); /* dim[3] is not judged, and its index must be 0 all the same */
-    CHECK(vestumbral_read(a, 364).dim[3] == -1);
+    file = vestumbral_read(a, 364);
+    CHECK(file.dim[3] == -1 && steps_are(file, STEPS(2, 6, 12, 12, 12, 12, 12)));
     CHECK(refused(vestumbral_voxel(a, 364, NULL, 0, 0, 0, 1, 0, 0, 0, 0), 17));
+    CHECK(refused(vestumbral_voxel_in(file, 0, 0, 0, 1, 0, 0, 0, 0), 17));
     a[348] = 1;
     REFUSED(vestumbral_read(a, 364), 13, 352);
     give_back(source, a, 364);
@@ -173,7 +185,11 @@ static void reading(enum source source)
     uint8_t whole[364];
     file_a(whole);
     memcpy(a, whole, 363);
-    REFUSED(vestumbral_read(a, 363), 11, 108);
+    file = vestumbral_read(a, 363);
+    REFUSED(file, 11, 108);
+    CHECK(steps_are(file, STEPS(0)));
+    vestumbral_reply cut = vestumbral_voxel_in(file, 363, 0, 0, 0, 0, 0, 0, 0);
+    CHECK(cut.refusal == 11 && cut.place == 108 && cut.length == 0);
     CHECK(refused(vestumbral_append(a, 363, 364, 0, NULL, 0), 24));
     give_back(source, a, 363);
 
@@ -211,13 +227,211 @@ static void image_limit(void)
     const int dims[] = {3, 16384, 16384, 4096};
     const int wraps[] = {5, 16384, 16384, 16384, 16384, 256}; /* 2^64 bytes */
     uint8_t file[348];
+    header(file, 1, dims, 2, 8, 0x4d000000);
+    vestumbral_file most = vestumbral_read(file, 348);
+    CHECK(done(vestumbral_voxel_in(most, 1099645845504, 16383, 16383, 4095, 0, 0, 0, 0), 1099645845503, 1));
+    CHECK(refused(vestumbral_voxel_in(most, 1099645845503, 16383, 16383, 4095, 0, 0, 0, 0), 16));
     header(file, 1, dims, 2, 8, 0);
-    CHECK(vestumbral_read(file, 348).data_bytes == 1099511627776);
+    most = vestumbral_read(file, 348);
+    CHECK(most.data_bytes == 1099511627776);
+    CHECK(steps_are(most, STEPS(1, 16384, 268435456, 1099511627776, 1099511627776, 1099511627776, 1099511627776)));
+    CHECK(done(vestumbral_voxel_in(most, 1099511627776, 16383, 16383, 4095, 0, 0, 0, 0), 1099511627775, 1));
+    CHECK(refused(vestumbral_voxel_in(most, 1099511627776, 16383, 16383, 4096, 0, 0, 0, 0), 17));
     CHECK(refused(vestumbral_voxel(file, 348, file, 1, 0, 0, 0, 0, 0, 0, 0), 16));
+    CHECK(refused(vestumbral_voxel_in(most, 1, 0, 0, 0, 0, 0, 0, 0), 16));
     header(file, 1, dims, 4, 16, 0);
     REFUSED(vestumbral_read(file, 348), 10, 40);
     header(file, 1, wraps, 2, 8, 0);
     REFUSED(vestumbral_read(file, 348), 10, 40);
+}
+
+/* Files of 1 to 7 axes in memory of exactly their length: the steps, and each voxel by them and by the file. */
+static void steps(enum source source)
+{
+    static const int dims[7] = {3, 2, 4, 2, 3, 2, 5};
+    static const uint64_t right[8] = {2, 6, 12, 48, 96, 288, 576, 2880};
+    for (int axes = 1; axes <= 7; axes++) {
+        size_t length = 352 + right[axes];
+        int named[8] = {axes};
+        uint64_t expected[7], i[7] = {0};
+        for (int k = 0; k < 7; k++) {
+            named[k + 1] = dims[k];
+            expected[k] = right[k < axes ? k : axes];
+        }
+        uint8_t *file = take(source, length);
+        header(file, 0, named, 4, 16, 0x43b00000);
+        memset(file + 348, 0, length - 348);
+        vestumbral_file read = vestumbral_read(file, length), before = read;
+        CHECK(read.refusal == 0 && read.data_bytes == right[axes] && steps_are(read, expected));
+        as_whole(fed(vestumbral_pieces_start(), file, length), file, length, 0);
+        for (uint64_t voxel = 0; voxel < right[axes] / 2; voxel++) {
+            uint64_t rest = voxel;
+            for (int k = 0; k < axes; k++) {
+                i[k] = rest % dims[k];
+                rest /= dims[k];
+            }
+            CHECK(done(vestumbral_voxel_in(read, 0, i[0], i[1], i[2], i[3], i[4], i[5], i[6]), 352 + 2 * voxel, 2));
+            CHECK(done(vestumbral_voxel(file, length, NULL, 0, i[0], i[1], i[2], i[3], i[4], i[5], i[6]), 352 + 2 * voxel, 2));
+        }
+        for (int k = 0; k < 7; k++) {
+            i[k]++;
+            CHECK(refused(vestumbral_voxel_in(read, 0, i[0], i[1], i[2], i[3], i[4], i[5], i[6]), 17));
+            i[k]--;
+        }
+        CHECK(memcmp(&read, &before, sizeof read) == 0);
+        vestumbral_swap(file, length, NULL, 0);
+        CHECK(steps_are(vestumbral_read(file, length), expected));
+        give_back(source, file, length);
+    }
+}
+
+/* The record of file A, as the rows below change it. */
+static vestumbral_file record_a(void)
+{
+    return (vestumbral_file){.data_offset = 352, .data_bytes = 12, .dim = {2, 3, 2}, .datatype = 4, .bitpix = 16,
+                             .step = {2, 6, 12, 12, 12, 12, 12}};
+}
+
+/* Voxel (i, j) by a record, which stays as it was. */
+static vestumbral_reply voxel_in(vestumbral_file file, uint64_t image_len, uint64_t i, uint64_t j)
+{
+    vestumbral_file before = file;
+    vestumbral_reply reply = vestumbral_voxel_in(file, image_len, i, j, 0, 0, 0, 0, 0);
+    CHECK(memcmp(&file, &before, sizeof file) == 0);
+    return reply;
+}
+
+/* A record of which every byte is 0, and one of which every byte is FF: it is refused for one member after another is set right. */
+static void blank_records(void)
+{
+    vestumbral_file file = {0};
+    REFUSED(voxel_in(file, 0, 0, 0), 2, 40);
+    memset(&file, 0xff, sizeof file);
+    vestumbral_reply reply = voxel_in(file, UINT64_MAX, UINT64_MAX, UINT64_MAX);
+    CHECK(reply.refusal == UINT64_MAX && reply.place == UINT64_MAX && reply.length == 0);
+    file.refusal = 0;
+    reply = voxel_in(file, 0, 0, 0);
+    CHECK(reply.refusal == 2 && reply.place == 40 && reply.length == 0);
+    file.dim[0] = 7;
+    reply = voxel_in(file, 0, 0, 0);
+    CHECK(reply.refusal == 9 && reply.place == 108 && reply.length == 0);
+    file.data_offset = 1;
+    CHECK(refused(voxel_in(file, UINT64_MAX, 0, 0), 16));
+    file.data_offset = 0;
+    CHECK(refused(voxel_in(file, UINT64_MAX - 1, 0, 0), 16));
+    CHECK(refused(voxel_in(file, UINT64_MAX, 0, 0), 17));
+    for (int i = 1; i < 8; i++) {
+        CHECK(refused(voxel_in(file, UINT64_MAX, 0, 0), 17));
+        file.dim[i] = 32767;
+    }
+    CHECK(refused(voxel_in(file, UINT64_MAX, 0, 0), 26));
+    file.data_bytes = 1099511627776;
+    CHECK(refused(voxel_in(file, UINT64_MAX, 0, 0), 26));
+    file.step[0] = 1099511627776;
+    CHECK(done(voxel_in(file, UINT64_MAX, 0, 0), 0, 1099511627776));
+    CHECK(done(voxel_in(file, 1099511627776, 0, 0), 0, 1099511627776));
+    CHECK(refused(voxel_in(file, 1099511627775, 0, 0), 16));
+    CHECK(refused(voxel_in(file, UINT64_MAX, 0, 1), 26));
+    CHECK(refused(vestumbral_voxel_in(file, UINT64_MAX, 32766, 32766, 32766, 32766, 32766, 32766, 32766), 26));
+    CHECK(refused(vestumbral_voxel_in(file, UINT64_MAX, 32766, 32766, 32766, 32766, 32766, 32766, 32767), 17));
+}
+
+/* Every limit of a record on both of its sides, by the last voxel of A. */
+static void records(void)
+{
+    vestumbral_file file = record_a();
+    CHECK(done(voxel_in(file, 0, 2, 1), 362, 2) && done(voxel_in(file, UINT64_MAX, 2, 1), 362, 2));
+    CHECK(refused(voxel_in(file, 0, 3, 0), 17) && refused(voxel_in(file, 0, 0, 2), 17));
+    for (int k = 0; k < 7; k++) {
+        uint64_t i[7] = {0};
+        i[k] = UINT64_MAX;
+        CHECK(refused(vestumbral_voxel_in(file, 0, i[0], i[1], i[2], i[3], i[4], i[5], i[6]), 17));
+        i[k] = (uint64_t)1 << 32;
+        CHECK(refused(vestumbral_voxel_in(file, 0, i[0], i[1], i[2], i[3], i[4], i[5], i[6]), 17));
+    }
+    const struct {
+        uint64_t total;
+        int fits;
+    } totals[] = {{0, 0}, {11, 0}, {12, 1}, {13, 1}, {1099511627775, 1}, {1099511627776, 1}, {1099511627777, 0}, {UINT64_MAX, 0}};
+    for (size_t i = 0; i < sizeof totals / sizeof *totals; i++) {
+        file.data_bytes = totals[i].total;
+        vestumbral_reply reply = voxel_in(file, 0, 2, 1);
+        CHECK(totals[i].fits ? done(reply, 362, 2) : refused(reply, 26));
+    }
+    const struct {
+        uint64_t offset;
+        uint32_t single, pair;
+    } begins[] = {{0, 9, 0},         {351, 9, 0},       {352, 0, 0},        {353, 0, 0},
+                  {134217728, 0, 0}, {134217729, 9, 9}, {4294967648, 9, 9}, {UINT64_MAX, 9, 9}};
+    for (size_t i = 0; i < sizeof begins / sizeof *begins; i++) {
+        uint64_t offset = begins[i].offset, end = offset + 12;
+        file = record_a();
+        file.data_offset = offset;
+        vestumbral_reply reply = voxel_in(file, 0, 2, 1);
+        CHECK(begins[i].single ? reply.refusal == 9 && reply.place == 108 && reply.length == 0 : done(reply, offset + 10, 2));
+        for (uint32_t pair = 1; pair != 0; pair *= 16) { /* any number but 0 is a pair */
+            file.pair = pair;
+            reply = voxel_in(file, end, 2, 1);
+            CHECK(begins[i].pair ? reply.refusal == 9 && reply.place == 108 && reply.length == 0 : done(reply, offset + 10, 2));
+            CHECK(begins[i].pair || (refused(voxel_in(file, end - 1, 2, 1), 16) && refused(voxel_in(file, 0, 3, 0), 16)));
+        }
+    }
+    static const int16_t no_axes[] = {0, 8, -1, 256, 258, INT16_MIN, INT16_MAX};
+    for (size_t i = 0; i < sizeof no_axes / sizeof *no_axes; i++) {
+        file = record_a();
+        file.dim[0] = no_axes[i];
+        REFUSED(voxel_in(file, 0, 0, 0), 2, 40);
+    }
+    file = record_a();
+    file.dim[1] = -3;
+    CHECK(refused(voxel_in(file, 0, 0, 0), 17));
+    file = record_a();
+    file.refusal = 26;
+    file.place = 5;
+    REFUSED(voxel_in(file, 0, 3, 0), 26, 5);
+}
+
+/* Steps that are not those of the dims, of which the last would pass 64 bits. */
+static void wrong_steps(void)
+{
+    vestumbral_file file = record_a();
+    file.step[0] = 0;
+    CHECK(refused(voxel_in(file, 0, 0, 0), 26) && refused(voxel_in(file, 0, 3, 0), 17));
+    file.step[0] = 12;
+    CHECK(done(voxel_in(file, 0, 0, 0), 352, 12) && refused(voxel_in(file, 0, 1, 0), 26));
+    file.step[0] = 13;
+    CHECK(refused(voxel_in(file, 0, 0, 0), 26));
+    for (int k = 1; k < 7; k++) {
+        uint64_t i[7] = {0};
+        file = record_a();
+        file.dim[0] = 7;
+        for (int axis = 1; axis < 8; axis++)
+            file.dim[axis] = 5;
+        file.step[k] = UINT64_MAX;
+        CHECK(done(vestumbral_voxel_in(file, 0, 1, 0, 0, 0, 0, 0, 0), 354, 2));
+        i[k] = 1;
+        CHECK(refused(vestumbral_voxel_in(file, 0, i[0], i[1], i[2], i[3], i[4], i[5], i[6]), 26));
+        i[0] = 1; /* 2 + (2^64 - 1) is 1 in 64 bits, and 2 + (2^64 - 2) is 0 */
+        CHECK(refused(vestumbral_voxel_in(file, 0, i[0], i[1], i[2], i[3], i[4], i[5], i[6]), 26));
+        file.step[k] = UINT64_MAX - 1;
+        CHECK(refused(vestumbral_voxel_in(file, 0, i[0], i[1], i[2], i[3], i[4], i[5], i[6]), 26));
+        i[k] = 4; /* 4 x 2^62 is 0 in 64 bits */
+        file.step[k] = (uint64_t)1 << 62;
+        CHECK(refused(vestumbral_voxel_in(file, 0, i[0], i[1], i[2], i[3], i[4], i[5], i[6]), 26));
+        file.step[k] = 2; /* 2 + 8 + 2 are all the bytes */
+        CHECK(done(vestumbral_voxel_in(file, 0, i[0], i[1], i[2], i[3], i[4], i[5], i[6]), 362, 2));
+        file.step[k] = 3;
+        CHECK(refused(vestumbral_voxel_in(file, 0, i[0], i[1], i[2], i[3], i[4], i[5], i[6]), 26));
+    }
+    file = record_a();
+    file.step[0] = UINT64_MAX; /* 6 + (2^64 - 1) is 5 in 64 bits */
+    CHECK(refused(voxel_in(file, 0, 0, 0), 26) && refused(voxel_in(file, 0, 0, 1), 26) && refused(voxel_in(file, 0, 1, 0), 26));
+    file = record_a();
+    file.data_bytes = 1099511627776;
+    file.step[1] = 1099511627774;
+    CHECK(done(voxel_in(file, 0, 0, 1), 1099511628126, 2) && refused(voxel_in(file, 0, 1, 1), 26));
+    file.step[1] = 1099511627775;
+    CHECK(refused(voxel_in(file, 0, 0, 1), 26) && done(voxel_in(file, 0, 2, 0), 356, 2));
 }
 
 /* Payloads of 0, 8 and 9 bytes at exact fits, and one byte short of them. */
@@ -682,6 +896,9 @@ int main(void)
     too_short(&one, 1);
     CHECK(one == 0x5c);
     image_limit();
+    blank_records();
+    records();
+    wrong_steps();
     total();
     longest_turn();
     for (enum source source = HEAP; source <= FENCE_BEFORE; source++) {
@@ -692,6 +909,7 @@ int main(void)
         give_back(source, byte, 1);
         reading(source);
         offsets(source);
+        steps(source);
         payloads(source);
         edits(source);
         pair_edits(source);

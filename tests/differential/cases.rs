@@ -5,6 +5,8 @@ use crate::extender_cases::{self, EXTENDERS};
 use crate::files::{extension, Header, EXTENSIONS, NO_EXTENSIONS, OFFSET_352};
 use crate::library::STATE_WORDS;
 use crate::memory::Where;
+use crate::record::Asked;
+use crate::record_cases;
 use crate::rules::{self, Edit, Known, Order, DATATYPES, REGION, REGION_LIMIT, TOTAL};
 use crate::turn::Turn;
 use crate::turn_cases;
@@ -57,12 +59,13 @@ impl Random {
     }
 }
 
-/// What is asked. Beside a turn stands another, which follows it in the laws.
+/// What is asked. Beside a turn stands another, which follows it in the laws; voxel_in is given a record and no file.
 #[derive(Clone, Copy, PartialEq, Debug)]
 pub enum Call {
     Read,
     ExtensionAt { number: u64 },
     Voxel { index: [u64; 7] },
+    VoxelIn(Asked),
     SliceAt { slice: u64 },
     PositionOf { index: [u64; 3] },
     Swap,
@@ -146,7 +149,7 @@ pub struct Case {
 }
 
 /// Dims whose image is at, just above or far above the limit, or passes 2^32 or 2^64.
-const LONG_DIMS: [&[i16]; 12] = [
+pub const LONG_DIMS: [&[i16]; 12] = [
     &[16384, 16384, 4096],
     &[16384, 16384, 4097],
     &[16384, 16384, 2048],
@@ -398,13 +401,13 @@ fn extended_file(random: &mut Random) -> Vec<u8> {
 }
 
 /// A number below the bound, now and then its last.
-fn inside(random: &mut Random, bound: u64) -> u64 {
+pub fn inside(random: &mut Random, bound: u64) -> u64 {
     let any = random.below(bound);
     random.pick(&[0, bound.saturating_sub(1), any, any])
 }
 
 /// A number at or past the bound, some of which a narrower number would take for one below it.
-fn outside(random: &mut Random, bound: u64) -> u64 {
+pub fn outside(random: &mut Random, bound: u64) -> u64 {
     let low = random.below(bound);
     random.pick(&[bound, bound + 1, (1 << 16) + low, (1 << 32) + low, 1 << 32, 1 << 63, (1 << 63) + low, u64::MAX])
 }
@@ -614,7 +617,10 @@ impl Case {
     /// The case of this number.
     pub fn new(seed: u64, number_of_case: u64, zeros: &[u8]) -> Case {
         let random = &mut Random::new(seed, number_of_case);
-        let call = random.below(25);
+        let call = random.below(28);
+        if call > 24 {
+            return record_cases::case(record_cases::any(random));
+        }
         let file = match call {
             2 | 16..=19 => extended_file(random),
             20.. => turn_cases::file(random),
@@ -680,26 +686,36 @@ fn slice(random: &mut Random, file: &[u8], known: Option<&Known>) -> u64 {
 }
 
 /// The cases that hang on no seed, and come first.
-pub const FIXED: u64 = LARGE + CUT + TALL + extender_cases::FIXED + turn_cases::FIXED;
+pub const FIXED: u64 = LARGE + CUT + TALL + record_cases::FIXED + extender_cases::FIXED + turn_cases::FIXED;
 
 /// The cases at 2^27 and 2^40, which take up to half a gigabyte while they run; the files that are cut at every place; those that
 /// are fed up to 2^41 bytes.
-const LARGE: u64 = 22;
+pub const LARGE: u64 = 22;
 const CUT: u64 = 22;
 const TALL: u64 = 13;
 
 pub fn fixed(number: u64) -> Case {
-    if number < LARGE {
-        large(number)
-    } else if number < LARGE + CUT {
-        Case::fed(cut_everywhere(number - LARGE), Feeding::EveryCut)
-    } else if number < LARGE + CUT + TALL {
-        Case::fed(tall(number - LARGE - CUT), Feeding::ToTotal)
-    } else if number < LARGE + CUT + TALL + extender_cases::FIXED {
-        extender_cases::fixed(number - LARGE - CUT - TALL)
-    } else {
-        turn_cases::fixed(number - LARGE - CUT - TALL - extender_cases::FIXED)
+    let groups: [(u64, fn(u64) -> Case); 6] = [
+        (LARGE, large),
+        (CUT, |number| Case::fed(cut_everywhere(number), Feeding::EveryCut)),
+        (TALL, |number| Case::fed(tall(number), Feeding::ToTotal)),
+        (record_cases::FIXED, record_cases::fixed),
+        (extender_cases::FIXED, extender_cases::fixed),
+        (turn_cases::FIXED, turn_cases::fixed),
+    ];
+    grouped(number, &groups)
+}
+
+/// What the number names in groups that follow one another, each with its count.
+pub fn grouped<T>(number: u64, groups: &[(u64, fn(u64) -> T)]) -> T {
+    let mut rest = number;
+    for &(count, group) in groups {
+        if rest < count {
+            return group(rest);
+        }
+        rest -= count;
     }
+    panic!("no case {number}");
 }
 
 /// Extensions of these sizes and codes, joined.

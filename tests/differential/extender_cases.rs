@@ -57,7 +57,7 @@ pub fn fixed(number: u64) -> Case {
 }
 
 /// The digits of a number, the first of which goes round fastest.
-fn digits<const N: usize>(number: u64, bases: [u64; N]) -> [usize; N] {
+pub fn digits<const N: usize>(number: u64, bases: [u64; N]) -> [usize; N] {
     let mut rest = number;
     bases.map(|base| {
         let digit = rest % base;

@@ -49,8 +49,8 @@ fn possible(end: usize, class: usize) -> bool {
     let extended = class != BARE && class % EXTENDERS.len() >= 4;
     let private = class != BARE && matches!(class % EXTENDERS.len(), 1 | 3);
     match end_name(end) {
-        // a piece has no extender
-        "take" => false,
+        // a piece and a record have no extender
+        "take" | "voxel_in" => false,
         "extension" | "replace" | "remove" | "last out" | "pieces_ext" => extended,
         "append" => !private,
         "append 20" => private,

@@ -1,4 +1,4 @@
-//! The library's fourteen calls as include/vestumbral.h declares them, and their answers. Nothing checks these declarations but the
+//! The library's fifteen calls as include/vestumbral.h declares them, and their answers. Nothing checks these declarations but the
 //! comparison itself, so they are kept beside one another and in the header's order.
 
 use std::fmt;
@@ -24,6 +24,7 @@ pub struct FileAnswer {
     pub datatype: i16,
     pub bitpix: i16,
     pub extensions: u32,
+    pub step: [u64; 7],
 }
 
 #[repr(C)]
@@ -106,6 +107,17 @@ extern "C" {
         file_len: usize,
         image: *const u8,
         image_len: usize,
+        i1: u64,
+        i2: u64,
+        i3: u64,
+        i4: u64,
+        i5: u64,
+        i6: u64,
+        i7: u64,
+    ) -> Reply;
+    pub fn vestumbral_voxel_in(
+        file: FileAnswer,
+        image_len: u64,
         i1: u64,
         i2: u64,
         i3: u64,

@@ -1,12 +1,13 @@
 //! Compares the library, called through its C interface, with the rules of 01-scope.md and 02-change-requests.md written a second
-//! time in rules.rs and turn.rs: the whole answer, the whole of every lent buffer, and the bytes beside it. A file that is read is
-//! fed in pieces too, a turn that is not refused is held to the laws of turns, and a file whose extender is one of the base's is
-//! held to the base's rule.
+//! time in rules.rs, turn.rs and record.rs: the whole answer, the whole of every lent buffer, and the bytes beside it. A file that
+//! is read is fed in pieces too, a voxel is located by the record of its file too, what a call that writes leaves is read again, a
+//! turn that is not refused is held to the laws of turns, and a file whose extender is one of the base's is held to the base's
+//! rule.
 //!
 //!     differential [--cases N] [--seed S] [--only CASE] [--self-check]
 //!
-//! It fails on any difference, and where a refusal that a call can give was never reached, two of a turn never held together, or a
-//! call was never done with some kind of extender.
+//! It fails on any difference, and where a refusal that a call can give was never reached, two of a turn or of voxel_in never held
+//! together, voxel_in never met a border of its rules, or a call was never done with some kind of extender.
 
 mod cases;
 mod extender_cases;
@@ -15,17 +16,22 @@ mod files;
 mod library;
 mod memory;
 mod pieces;
+mod record;
+mod record_cases;
+mod records;
 mod rules;
 mod self_check;
 mod turn;
 mod turn_cases;
 mod turn_laws;
 mod wrong_extenders;
+mod wrong_steps;
 mod wrong_turns;
 
 use cases::{Call, Case, Feeding, Other, Piece};
 use library::*;
 use memory::{Area, Lent, Tall, Where};
+use record::Asked;
 use rules::{Edit, Extender, Known, Order, Refusal, Slice, Span, RESERVED};
 use std::collections::BTreeMap;
 use std::sync::atomic::Ordering;
@@ -59,6 +65,7 @@ fn file_answer(read: &Result<Known, Refusal>) -> FileAnswer {
             datatype: known.datatype,
             bitpix: known.bitpix,
             extensions: known.spans.len() as u32,
+            step: known.steps,
             ..FileAnswer::default()
         },
         Err(no) => FileAnswer { refusal: no.number, place: no.place, ..FileAnswer::default() },
@@ -122,6 +129,7 @@ fn by_rules(extender: &Extender, case: &Case, zeros: &[u8]) -> Outcome {
             kept(Answer::Extension(extension_answer(read().and_then(|known| rules::numbered(&known, number)))))
         }
         Call::Voxel { index } => kept(reply(rules::voxel(main, other.len() as u64, index))),
+        Call::VoxelIn(asked) => kept(reply(asked.voxel())),
         Call::SliceAt { slice } => kept(slice_answer(main, slice)),
         Call::PositionOf { index } => kept(position_answer(main, index)),
         Call::Swap => match rules::swap(main, other) {
@@ -170,6 +178,12 @@ fn lend(area: &mut Area, other: &Other, at: Where, zeros: &[u8], closed: *mut u8
     (lent, buffer)
 }
 
+/// The library's answer by a record.
+unsafe fn by_record(asked: &Asked) -> Answer {
+    let [a, b, c, d, e, f, g] = asked.index;
+    Answer::Reply(vestumbral_voxel_in(asked.record, asked.image_len, a, b, c, d, e, f, g))
+}
+
 /// Calls the library.
 ///
 /// # Safety
@@ -181,6 +195,7 @@ unsafe fn call(call: Call, (main, length): Buffer, (other, other_len): Buffer, r
         Call::Voxel { index: [a, b, c, d, e, f, g] } => {
             Answer::Reply(vestumbral_voxel(main, length, other, other_len, a, b, c, d, e, f, g))
         }
+        Call::VoxelIn(asked) => by_record(&asked),
         Call::SliceAt { slice } => Answer::Slice(vestumbral_slice_at(main, length, slice)),
         Call::PositionOf { index: [i, j, k] } => Answer::Position(vestumbral_position_of(main, length, i, j, k)),
         Call::Swap => Answer::Reply(vestumbral_swap(main, length, other, other_len)),
@@ -267,6 +282,7 @@ fn compare(case: &Case, memory: &mut Memory, counts: &mut Counts) -> Option<Stri
         .find_map(|(name, rules, area, lent)| buffer_difference(name, rules, area.content(lent), area.guards_kept(lent)))
         .or_else(|| counts.extenders.base_difference(case, zeros, &expected))
         .or_else(|| turn_difference(case, counts))
+        .or_else(|| records::difference(case, memory.main.content(&main), &expected, counts))
         .or_else(|| pieces::difference(memory.main.content(&main), &case.feeding, &mut memory.other, &mut memory.tall, counts))
 }
 
@@ -347,13 +363,14 @@ fn reduce(case: &Case, memory: &mut Memory) -> Case {
     least
 }
 
-const CALLS: [&str; 13] = [
+const CALLS: [&str; 14] = [
     "read", "extension", "voxel", "slice", "position", "swap", "append", "replace", "remove", "take", "pieces", "pieces_ext",
-    "turn",
+    "turn", "voxel_in",
 ];
 const PIECES_TAKE: usize = 9;
 const PIECES_FILE: usize = 10;
 const PIECES_EXTENSION: usize = 11;
+const VOXEL_IN: usize = 13;
 
 /// The refusals that each call can give.
 fn possible(call: usize) -> Vec<usize> {
@@ -361,6 +378,7 @@ fn possible(call: usize) -> Vec<usize> {
         "take" => return vec![25],
         "extension" | "pieces_ext" => &[18],
         "voxel" => &[16, 17],
+        "voxel_in" => &[16, 17, 26],
         "slice" => &[17],
         "position" => &[17, 23],
         "swap" => &[16],
@@ -385,6 +403,7 @@ fn call_number(call: &Call) -> usize {
         Call::Replace { .. } => 7,
         Call::Remove { .. } => 8,
         Call::Turn { .. } => 12,
+        Call::VoxelIn(_) => VOXEL_IN,
     }
 }
 
@@ -400,6 +419,7 @@ struct Counts {
     /// How often the laws of a turn were tried.
     tried: Tried,
     extenders: extenders::Reached,
+    records: records::Reached,
 }
 
 /// The refusals of a turn that may hold together: of two the one that is tried first, and the other.
@@ -410,8 +430,11 @@ fn conflicts() -> Vec<(u64, u64)> {
 }
 
 impl Counts {
+    /// A record's own refusal may be any number; one that is not in the table is counted elsewhere.
     fn add(&mut self, call: usize, refusal: u64) {
-        self.given[call][refusal as usize] += 1;
+        if let Some(count) = usize::try_from(refusal).ok().and_then(|number| self.given[call].get_mut(number)) {
+            *count += 1;
+        }
     }
 
     fn print(&self) {
@@ -428,9 +451,11 @@ impl Counts {
         let Tried { back, composed, swapped } = self.tried;
         println!("laws of a turn: {back} turned back, {composed} composed, {swapped} swapped");
         self.extenders.print();
+        self.records.print();
     }
 
-    /// Which refusals were never reached, alone or before another, which laws were never tried, and which extenders never met.
+    /// Which refusals were never reached, alone or before another, which laws were never tried, and which extenders and borders
+    /// never met.
     fn missing(&self) -> Vec<String> {
         let all = (0..CALLS.len()).flat_map(|call| possible(call).into_iter().map(move |number| (call, number)));
         let given = all
@@ -443,7 +468,7 @@ impl Counts {
         let Tried { back, composed, swapped } = self.tried;
         let laws = [(back, "a turn back"), (composed, "a composed turn"), (swapped, "a turn and a swap")];
         let tried = laws.into_iter().filter(|law| law.0 == 0).map(|law| law.1.to_string());
-        given.chain(together).chain(tried).chain(self.extenders.missing()).collect()
+        given.chain(together).chain(tried).chain(self.extenders.missing()).chain(self.records.missing()).collect()
     }
 }
 

@@ -126,6 +126,8 @@ pub struct Known {
     pub unit: usize,
     pub offset: u64,
     pub image_bytes: u64,
+    /// The byte step of each axis.
+    pub steps: [u64; 7],
     /// Where the extension region ends: vox_offset, or a pair's file length.
     pub region_end: u64,
     /// The first byte of the extender is not zero.
@@ -195,6 +197,19 @@ pub const BASE: Extender = Extender {
     written: |_, _, some| [some as u8, 0, 0, 0],
 };
 
+/// The seven byte steps (02-change-requests.md, P4), each how far apart two neighbours along an axis are: the bytes of all voxels
+/// that the axes before it hold. "An axis after dim[0] has the image total as its step."
+pub fn steps(dim: &[i16; 8], bitpix: i16, image_bytes: u64) -> [u64; 7] {
+    std::array::from_fn(|before| {
+        let voxels = dim[1..=before].iter().map(|&d| d as u128).product::<u128>();
+        if before < dim[0] as usize {
+            (voxels * (bitpix as u128 / 8)) as u64
+        } else {
+            image_bytes
+        }
+    })
+}
+
 /// What the header and the file's length tell, without the extensions. Refusals 1 to 12.
 fn layout(rule: &Extender, file: &[u8]) -> Result<Known, Refusal> {
     let length = file.len() as u64;
@@ -244,7 +259,8 @@ fn layout(rule: &Extender, file: &[u8]) -> Result<Known, Refusal> {
     }
     let extended = (rule.read)(file)?;
     let region_end = if pair { length } else { offset };
-    Ok(Known { order, pair, dim, datatype, bitpix, unit, offset, image_bytes, region_end, extended, spans: Vec::new() })
+    let steps = steps(&dim, bitpix, image_bytes);
+    Ok(Known { order, pair, dim, datatype, bitpix, unit, offset, image_bytes, steps, region_end, extended, spans: Vec::new() })
 }
 
 /// What is known of a file that rules 1 to 12 do not refuse, with its extensions up to the first that rules 13 to 15 refuse, and

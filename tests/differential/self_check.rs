@@ -4,11 +4,13 @@
 
 use crate::cases;
 use crate::files::{extension, file_a, Header, EXTENSIONS, NO_EXTENSIONS, OFFSET_352};
+use crate::library::FileAnswer;
 use crate::pieces::twin;
+use crate::record::Asked;
 use crate::rules::*;
 use crate::turn::{came_from, faults, reversed_row, turn, Turn};
 use crate::turn_laws::{broken, Both, Engine, Tried};
-use crate::{case, extender_cases, memory, turn_cases, wrong_extenders, wrong_turns};
+use crate::{case, extender_cases, file_answer, memory, record_cases, turn_cases, wrong_extenders, wrong_steps, wrong_turns};
 use std::fmt::Debug;
 
 #[derive(Default)]
@@ -87,6 +89,7 @@ fn file_a_numbers(checks: &mut Checks) {
     let known = read(&a).unwrap();
     checks.equal("A", (known.order, known.pair, known.offset, known.image_bytes), (LITTLE, false, 352, 12));
     checks.equal("A's extensions", known.spans.len(), 0);
+    checks.equal("A's steps", known.steps, [2, 6, 12, 12, 12, 12, 12]);
     checks.equal("voxel (2,1) of A", voxel(&a, 0, [2, 1, 0, 0, 0, 0, 0]), Ok((362, 2)));
     checks.refused("voxel (3,0) of A", voxel(&a, 0, [3, 0, 0, 0, 0, 0, 0]), 17, 0);
     checks.refused("voxel (0,0,1) of A", voxel(&a, 0, [0, 0, 1, 0, 0, 0, 0]), 17, 0);
@@ -140,6 +143,93 @@ fn images(checks: &mut Checks) {
     }
     for code in [0, 1, 255, 1200, -2, 32767] {
         checks.refused("datatype", bytes(&[1], code), 6, 70);
+    }
+}
+
+/// The steps of 01-scope.md's files and of document 002's examples.
+fn steps_read(checks: &mut Checks) {
+    let steps = |dims: &[i16], datatype| read(&Header::new(BIG, true).dims(dims).datatype(datatype).bytes).map(|known| known.steps);
+    checks.equal("one axis", steps(&[5], 128), Ok([3, 15, 15, 15, 15, 15, 15]));
+    checks.equal("one voxel", steps(&[1], 2048), Ok([32; 7]));
+    checks.equal("T1", steps(&[256, 256, 128], 4), Ok([2, 512, 131_072, 16_777_216, 16_777_216, 16_777_216, 16_777_216]));
+    checks.equal("VECTOR", steps(&[64, 64, 20, 1, 3], 16), Ok([4, 256, 16_384, 327_680, 327_680, 983_040, 983_040]));
+    checks.equal("six axes", steps(&[3, 2, 4, 2, 3, 2], 64), Ok([8, 24, 48, 192, 384, 1152, 2304]));
+    checks.equal("seven axes", steps(&[3, 2, 4, 2, 3, 2, 5], 4), Ok([2, 6, 12, 48, 96, 288, 576]));
+    let most = 1_099_511_627_776;
+    checks.equal("image limit", steps(&[16384, 16384, 4096], 2), Ok([1, 16_384, 268_435_456, most, most, most, most]));
+    let unused = changed(file_a(), 46, &[255, 255, 7, 0]);
+    checks.equal("dims after dim[0]", read(&unused).map(|known| known.steps), Ok([2, 6, 12, 12, 12, 12, 12]));
+    let swapped = swap(&file_a(), &[]).and_then(|both| read(&both.0)).map(|known| known.steps);
+    checks.equal("A swapped", swapped, Ok([2, 6, 12, 12, 12, 12, 12]));
+    let refused = FileAnswer { refusal: 11, place: 108, ..FileAnswer::default() };
+    checks.equal("a refused file has none", file_answer(&read(&file_a()[..363])), refused);
+}
+
+/// Voxels by the record of file A, and by others: each with what is refused first, or the place and length.
+fn voxels_by_record(checks: &mut Checks) {
+    const MAX: u64 = u64::MAX;
+    const MOST: u64 = 1_099_511_627_776;
+    let a = FileAnswer {
+        data_offset: 352,
+        data_bytes: 12,
+        dim: [2, 3, 2, 0, 0, 0, 0, 0],
+        datatype: 4,
+        bitpix: 16,
+        step: [2, 6, 12, 12, 12, 12, 12],
+        ..FileAnswer::default()
+    };
+    checks.equal("the record of A", file_answer(&read(&file_a())), a);
+    let at = |index: [u64; 7]| Asked { record: a, image_len: 0, index }.voxel();
+    checks.equal("voxel (2,1)", at([2, 1, 0, 0, 0, 0, 0]), Ok((362, 2)));
+    checks.equal("voxel (0,1)", at([0, 1, 0, 0, 0, 0, 0]), Ok((358, 2)));
+    checks.refused("voxel (3,0)", at([3, 0, 0, 0, 0, 0, 0]), 17, 0);
+    checks.refused("voxel (0,0,1)", at([0, 0, 1, 0, 0, 0, 0]), 17, 0);
+    checks.refused("voxel (0,2^64 - 1)", at([0, MAX, 0, 0, 0, 0, 0]), 17, 0);
+
+    let last = |change: fn(&mut FileAnswer)| {
+        let mut record = a;
+        change(&mut record);
+        Asked { record, image_len: 364, index: [2, 1, 0, 0, 0, 0, 0] }.voxel()
+    };
+    checks.refused("its own refusal and place", last(|a| (a.refusal, a.place) = (77, MAX)), 77, MAX);
+    checks.equal("a place alone is none", last(|a| a.place = 40), Ok((362, 2)));
+    for no_axes in [-32768, -1, 0, 8, 258] {
+        let record = FileAnswer { dim: [no_axes, 3, 2, 1, 1, 1, 1, 1], ..a };
+        checks.refused("dim[0]", Asked { record, image_len: 0, index: [0; 7] }.voxel(), 2, 40);
+    }
+    checks.refused("a single file at 351", last(|a| a.data_offset = 351), 9, 108);
+    checks.equal("at 134217728", last(|a| a.data_offset = 134_217_728), Ok((134_217_738, 2)));
+    checks.refused("at 134217729", last(|a| a.data_offset = 134_217_729), 9, 108);
+    checks.equal("a pair at 0", last(|a| (a.pair, a.data_offset) = (1, 0)), Ok((10, 2)));
+    checks.refused("a pair at 134217729", last(|a| (a.pair, a.data_offset) = (1, 134_217_729)), 9, 108);
+    checks.equal("a pair whose image file just fits", last(|a| a.pair = 2), Ok((362, 2)));
+    checks.refused("one byte short", last(|a| (a.pair, a.data_offset) = (2, 353)), 16, 0);
+    checks.equal("which is nothing to a single file", last(|a| a.data_offset = 353), Ok((363, 2)));
+    checks.refused("an image that ends past 2^64", last(|a| (a.pair, a.data_bytes) = (1, MAX)), 16, 0);
+    checks.refused("dim[1] -3", last(|a| a.dim[1] = -3), 17, 0);
+    checks.equal("dim[3] -3", last(|a| a.dim[3] = -3), Ok((362, 2)));
+    checks.refused("dim[3] -3 of three axes", last(|a| (a.dim[0], a.dim[3]) = (3, -3)), 17, 0);
+    checks.refused("one image byte less", last(|a| a.data_bytes = 11), 26, 0);
+    checks.refused("a longer row", last(|a| a.step[1] = 7), 26, 0);
+    checks.equal("a shorter row", last(|a| a.step[1] = 5), Ok((361, 2)));
+    checks.equal("rows in one place", last(|a| a.step[1] = 0), Ok((356, 2)));
+    checks.equal("the most image bytes", last(|a| a.data_bytes = 1_099_511_627_776), Ok((362, 2)));
+    checks.refused("and one more", last(|a| a.data_bytes = 1_099_511_627_777), 26, 0);
+    checks.refused("voxels of no byte", last(|a| a.step[0] = 0), 26, 0);
+    checks.equal("a step that nothing multiplies", last(|a| a.step[6] = MAX), Ok((362, 2)));
+    checks.refused("2 x 2^63 + 6 + 2^63", last(|a| a.step[0] = 1 << 63), 26, 0);
+    checks.refused("4 + (2^64 - 4) + 2", last(|a| a.step[1] = MAX - 3), 26, 0);
+    let far = |step: u64, data_bytes: u64| {
+        let record = FileAnswer { step: [1, step, 1, 1, 1, 1, 1], data_bytes, ..a };
+        Asked { record, image_len: 0, index: [0, 1, 0, 0, 0, 0, 0] }.voxel()
+    };
+    checks.equal("the last byte of the longest image", far(MOST - 1, MOST), Ok((352 + MOST - 1, 1)));
+    checks.refused("the byte after it", far(MOST, MOST), 26, 0);
+    let seven = FileAnswer { dim: [7, 2, 2, 2, 2, 2, 2, 2], step: [1, 2, 4, 8, 16, 32, 64], data_bytes: 128, ..a };
+    checks.equal("all seven", Asked { record: seven, image_len: 0, index: [1; 7] }.voxel(), Ok((479, 1)));
+    for number in 0..record_cases::FAULTY {
+        let (asked, holds) = record_cases::faulty(number);
+        checks.equal("which refusals hold together", asked.faults().map(|fault| fault.is_some()), holds);
     }
 }
 
@@ -622,14 +712,28 @@ fn wrong_extenders(checks: &mut Checks) {
     }
 }
 
-/// Laws on random files: bytes that a state may not keep change nothing that is read, a swap twice restores, an edit's result is
-/// accepted and keeps every voxel, removing the extension just appended restores the file but for a first extender byte above 1,
-/// the voxels' ranges fill the image, and the reserved bytes change nothing but themselves.
+/// The wrong steps on cases of the comparison: on those that hang on no seed, and on random ones alone.
+fn wrong_steps(checks: &mut Checks) {
+    let zeros = memory::zeros(cases::ZEROS);
+    let fixed = cases::LARGE..cases::FIXED - turn_cases::FIXED;
+    let random = cases::FIXED..cases::FIXED + 20_000;
+    for numbers in [fixed, random] {
+        for (name, count) in wrong_steps::noticed(numbers.map(|number| case(1, number, zeros))) {
+            checks.holds(name, count > 0);
+        }
+    }
+}
+
+/// Laws on random files: bytes that a state may not keep change nothing that is read, a voxel by the record is that by the file, a
+/// swap twice restores, an edit's result is accepted and keeps every voxel and every step, removing the extension just appended
+/// restores the file but for a first extender byte above 1, the voxels' ranges fill the image, and the reserved bytes change nothing
+/// but themselves.
 fn laws(checks: &mut Checks) {
     let mut accepted = 0;
     for number in 0..2000 {
         let file = &cases::file(&mut cases::Random::new(7, number));
         checks.holds("a twin is read alike", twin(file).map_or(true, |twin| read(&twin) == read(file)));
+        record_law(checks, file, number as usize % 7);
         let Ok(known) = read(file) else {
             continue;
         };
@@ -655,6 +759,7 @@ fn laws(checks: &mut Checks) {
         let edited = &whole[..length as usize];
         let moved = read(edited).unwrap();
         checks.equal("one more extension", moved.spans.len(), known.spans.len() + 1);
+        checks.equal("and the same steps", moved.steps, known.steps);
         let last: [u64; 7] = std::array::from_fn(|i| known.axis(i + 1) - 1);
         let (before, after) = (voxel(file, image.len() as u64, last).unwrap(), voxel(edited, image.len() as u64, last).unwrap());
         checks.equal("voxels move with vox_offset", after.0 - before.0, moved.offset - known.offset);
@@ -665,6 +770,21 @@ fn laws(checks: &mut Checks) {
         checks.holds("removing it restores the file", back[..length as usize] == restored);
     }
     checks.holds("enough random files", accepted > 500);
+}
+
+/// The first voxel, the last and one past this axis, by the record and by the file; with the whole image file and one byte less.
+fn record_law(checks: &mut Checks, file: &[u8], past: usize) {
+    let read = read(file);
+    let record = file_answer(&read);
+    let last: [u64; 7] = std::array::from_fn(|i| read.as_ref().map_or(0, |known| known.axis(i + 1) - 1));
+    let mut outside = last;
+    outside[past] += 1;
+    let end = record.data_offset + record.data_bytes;
+    for image_len in [end, end.saturating_sub(1)] {
+        for index in [[0; 7], last, outside] {
+            checks.equal("a voxel by the record", Asked { record, image_len, index }.voxel(), voxel(file, image_len, index));
+        }
+    }
 }
 
 /// Other reserved bytes, and another first byte above 0, change nothing but themselves: of a file, that swapped, and edits.
@@ -703,9 +823,11 @@ fn voxels_fill(known: &Known, file: &[u8], image: &[u8]) -> bool {
 
 pub fn run() {
     let mut checks = Checks::default();
-    let values =
-        [file_a_numbers, offsets, images, headers, reserved_bytes, extensions, pieces, slices, positions, swaps, edits, turns];
-    for part in values.into_iter().chain([laws as fn(&mut Checks), turn_laws, wrong_extenders]) {
+    let values = [
+        file_a_numbers, offsets, images, steps_read, voxels_by_record, headers, reserved_bytes, extensions, pieces, slices,
+        positions, swaps, edits, turns,
+    ];
+    for part in values.into_iter().chain([laws as fn(&mut Checks), turn_laws, wrong_extenders, wrong_steps]) {
         part(&mut checks);
     }
     println!("self-check: {} checks, {} failed", checks.done, checks.failed);

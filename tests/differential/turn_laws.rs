@@ -1,6 +1,7 @@
 //! Laws of a turn (02-change-requests.md, P10), of the library or of the second implementation: one turn followed by another gives
 //! the dims, pixdims and image bytes of the composed turn, a turn and its inverse restore them, where none is refused. By the same
-//! rules a turned file reads as the old one with its axes permuted, and a turn and a swap give the same bytes in either order.
+//! rules a turned file reads as the old one with its axes permuted and their steps made anew, and a turn and a swap give the same
+//! bytes in either order.
 
 use crate::rules::{self, Known};
 use crate::turn::Turn;
@@ -53,5 +54,6 @@ pub fn broken(engine: &Engine, old: &Both, first: &Turn, next: &Turn, tried: &mu
     }
     let [l, m, n] = first.shown([known.dim[1], known.dim[2], known.dim[3]]);
     known.dim[1..4].copy_from_slice(&[l, m, n]);
+    known.steps = rules::steps(&known.dim, known.bitpix, known.image_bytes);
     (rules::read(&turned.0) != Ok(known)).then_some("the turned file reads as another")
 }

@@ -1,9 +1,10 @@
 /*
  * The calls in floating-point states that are not the default: each rounding mode, with flush-to-zero and denormals-are-zero, and
- * with every exception trapped. There read, extension_at, voxel, swap, the edits, the calls for pieces and a turn without sform
- * answer as in the default state, leave the same bytes in every lent buffer, and do not touch the state: their only float is the
- * vox_offset of an edit, a multiple of 16 up to 2^27, which no state rounds. Slice times, positions and the srow numbers of a turn
- * are computed in the state, so the header asks for the default; the lines that are printed show what another makes of one of each.
+ * with every exception trapped. There read, extension_at, voxel, voxel_in, swap, the edits, the calls for pieces and a turn without
+ * sform answer as in the default state, leave the same bytes in every lent buffer, and do not touch the state: their only float is
+ * the vox_offset of an edit, a multiple of 16 up to 2^27, which no state rounds. Slice times, positions and the srow numbers of a
+ * turn are computed in the state, so the header asks for the default; the lines that are printed show what another makes of one of
+ * each.
  */
 #include "../nifti.h"
 #include "vestumbral.h"
@@ -64,7 +65,7 @@ enum { PAYLOAD = 100000, SMALL = 512, VOXELS = 24, PIECE = 256 };
 static uint8_t buffer[SMALL + 2 * PAYLOAD], payload[PAYLOAD], image[VOXELS], out[SMALL], out_image[VOXELS];
 
 /* Answers by value have no padding, so their bytes can be told. */
-_Static_assert(sizeof(vestumbral_reply) == 24 && sizeof(vestumbral_file) == 64 && sizeof(vestumbral_extension) == 32, "padding");
+_Static_assert(sizeof(vestumbral_reply) == 24 && sizeof(vestumbral_file) == 120 && sizeof(vestumbral_extension) == 32, "padding");
 _Static_assert(sizeof(vestumbral_taken) == 912 && sizeof(vestumbral_turned) == 32, "padding");
 
 static void look(size_t length)
@@ -87,6 +88,8 @@ static void look(size_t length)
         for (uint64_t j = 0; j < 2; j++) {
             vestumbral_reply voxel = vestumbral_voxel(buffer, length, image, sizeof image, i, j, 0, 0, 0, 0, 0);
             tell("voxel", &voxel, sizeof voxel);
+            voxel = vestumbral_voxel_in(file, sizeof image, i, j, 0, 0, 0, 0, 0);
+            tell("voxel_in", &voxel, sizeof voxel);
         }
 }
 

@@ -2,7 +2,8 @@
  * The numbers that the source documents state, and some that follow from them, asked of the library through its C interface and
  * printed, one line an answer; vectors.out has what they should be. Three stand elsewhere: document 004's slice table and the row
  * that shows the order of rounding in the program slice_table, and the record written back in the program header_copy. Last come
- * files with reserved bytes in the extender (02-change-requests.md, P2), listed, edited, swapped and turned.
+ * files with reserved bytes in the extender (02-change-requests.md, P2), listed, edited, swapped and turned, and the sizes that
+ * reading keeps (P4), of files as they are, swapped, appended to and turned.
  */
 #include "../nifti.h"
 #include "vestumbral.h"
@@ -273,6 +274,79 @@ static void reserved_bytes(void)
         show("349 to 351 bytes", length);
 }
 
+static void print_reply(const char *call, vestumbral_reply r)
+{
+    if (r.refusal)
+        printf("%s refused %llu at %llu", call, (unsigned long long)r.refusal, (unsigned long long)r.place);
+    else
+        printf("%s %llu %llu", call, (unsigned long long)r.place, (unsigned long long)r.length);
+}
+
+/* The voxel by the file, and by what reading it answered. */
+static void both_ways(vestumbral_file f, const uint8_t *bytes, size_t length, size_t image_length, const uint64_t i[7])
+{
+    static uint8_t image[1 << 12];
+    printf("  (%d,%d,%d,%d,%d,%d,%d):", (int)i[0], (int)i[1], (int)i[2], (int)i[3], (int)i[4], (int)i[5], (int)i[6]);
+    print_reply(" voxel", vestumbral_voxel(bytes, length, image, image_length, i[0], i[1], i[2], i[3], i[4], i[5], i[6]));
+    print_reply(", voxel_in", vestumbral_voxel_in(f, image_length, i[0], i[1], i[2], i[3], i[4], i[5], i[6]));
+    printf("\n");
+}
+
+/* The image and the steps; then the voxel that is second along each axis that has two, the last voxel, and one outside: along the
+ * axis after dim[0], or along axis 7. */
+static void show_sizes(const char *what, const uint8_t *bytes, size_t length, size_t image_length)
+{
+    vestumbral_file f = vestumbral_read(bytes, length);
+    uint64_t second[7] = {0}, last[7] = {0};
+    printf("%s: %s, data %llu %llu, steps", what, f.big_endian ? "big" : "little", (unsigned long long)f.data_offset,
+           (unsigned long long)f.data_bytes);
+    for (int i = 0; i < 7; i++)
+        printf(" %llu", (unsigned long long)f.step[i]);
+    printf("\n");
+    for (int i = 0; i < f.dim[0]; i++) {
+        second[i] = f.dim[i + 1] > 1;
+        last[i] = f.dim[i + 1] - 1;
+    }
+    both_ways(f, bytes, length, image_length, second);
+    both_ways(f, bytes, length, image_length, last);
+    last[f.dim[0] < 7 ? f.dim[0] : 6]++;
+    both_ways(f, bytes, length, image_length, last);
+}
+
+/* A file as it is, swapped, appended to, and turned where it has three axes: the new ones show old axes 3, 1 and 2, 1 reversed. */
+static void sizes_of(const char *name, size_t length, size_t image_length)
+{
+    static uint8_t image[1 << 12], out[sizeof file], out_image[1 << 12];
+    char what[64];
+    show_sizes(name, file, length, image_length);
+    vestumbral_swap(file, length, image, image_length);
+    snprintf(what, sizeof what, "%s swapped", name);
+    show_sizes(what, file, length, image_length);
+    length = vestumbral_append(file, sizeof file, length, 6, (const uint8_t *)"hello", 5).length;
+    snprintf(what, sizeof what, "%s swapped, appended to", name);
+    show_sizes(what, file, length, image_length);
+    vestumbral_turned t = vestumbral_turn(file, length, image, image_length, 3, 1, 2, 1, 0, 0, out, sizeof out, out_image,
+                                          sizeof out_image);
+    snprintf(what, sizeof what, "%s swapped, appended to, turned", name);
+    if (t.refusal)
+        printf("%s: refused %d at %d\n", what, (int)t.refusal, (int)t.place);
+    else
+        show_sizes(what, out, t.length, image_length);
+}
+
+static void sizes(void)
+{
+    file_a();
+    sizes_of("A", 364, 0);
+    start(SINGLE, DIMS(7, 2, 3, 4, 1, 2, 2, 3), 16, 32, 352);
+    sizes_of("seven axes", 352 + 1152, 0);
+    start(PAIR, DIMS(3, 5, 4, 3), 512, 16, 352);
+    show_sizes("pair without its last byte", file, 348, 471);
+    sizes_of("pair", 348, 472);
+    file_a();
+    show_sizes("A cut", file, 363, 0);
+}
+
 int main(void)
 {
     file_a();
@@ -287,5 +361,6 @@ int main(void)
     swap();
     position();
     reserved_bytes();
+    sizes();
     return 0;
 }
