@@ -4,18 +4,27 @@
  * time of one call, of one voxel or of one piece, and its ratio to that of each other way: above 1 the library is slower.
  *
  * The plain C (plain.h) judges the same rules and gives the same answers; before anything is timed, both are asked of 200,000
- * files with bytes changed at random, and the run stops where they differ. Beside the calls that only read stand a copy and a move
- * of the bytes that reading looks at (header, extender, extensions); beside a swap of 64 MiB a copy and a move of the image; beside
- * an append and a removal that slide 64 MiB a copy and a move of these, the move by the same distance.
+ * files with bytes changed at random, and the run stops where they differ, in the steps of a file too. Beside the calls that only
+ * read stand a copy and a move of the bytes that reading looks at (header, extender, extensions); beside a swap of 64 MiB a copy and
+ * a move of the image; beside an append and a removal that slide 64 MiB a copy and a move of these, the move by the same distance.
  *
- * The rows of 1000 voxels time one call of the crate voxel_run, which locates the first 1000 of axis 1 and answers the farthest
- * place, and have the time of one voxel. By record the call reads the file once, by file for each voxel. Beside both stand a copy
- * and a move of each voxel's bytes. Beside the row by file stands plain C that reads for each voxel too; beside the row by record a
- * plain C loop over what was read before the timing, so that the compiler takes the tests of the other indexes, all 0, out of it.
+ * The rows of 1000 voxels have the time of one voxel, and beside them stand a copy and a move of each voxel's bytes.
+ *   voxel_in: vestumbral_voxel_in, called for each voxel with what vestumbral_read answered before the timing, by value, and with
+ *     indexes of axes 1 to 3 from a table. Beside it stands plain_voxel_in, in another file and so not inlined, which gets the same
+ *     by value, has the same seven index tests and adds the seven products of index and step; unlike the library it does not judge
+ *     dim[0], data_offset, the image file's length and where the voxel ends. Then vestumbral_voxel, which reads the file for each
+ *     voxel (/whole).
+ *   voxel by record: one call of the crate voxel_run, which reads the file once, locates the first 1000 voxels of axis 1 by the
+ *     record and answers the farthest place. Beside it stands a plain C loop over what was read before the timing, which calls
+ *     plain_place_of for each voxel, in another file too, with the indexes k, 0, 0, 0, 0, 0, 0: the same seven tests and products,
+ *     and the place and the length handed back by value. The library's loop and its call are compiled together, so there the
+ *     compiler knows the six zeros; the row voxel_in is the one that compares like with like.
+ *   voxel by file: one call of the crate voxel_run too, which reads the file for each voxel. The plain C reads for each voxel too.
+ * In plain C an index after dim[0] that passes its test is 0, and the compiler leaves out its product.
  *
  * The rows in pieces feed a file from a start, the state passed by value and kept by the caller, and ask what it is: of 64 MiB in
  * pieces of 256 bytes, nearly all of them voxels, the time of one piece; of a small file the time of it all. Beside them stand a
- * copy and a move of each piece, and beside the small file also the library's reading of the whole.
+ * copy and a move of each piece, and beside the small file also the library's reading of the whole (/whole).
  *
  * The rows of a turn have a single file of 256 x 256 x 128 voxels and the time of one voxel: each order of the axes, with none
  * reversed and with all three. Beside them stand plain C, a loop nest that reads in the same order, writes one voxel after another
@@ -36,7 +45,7 @@
  * another. */
 enum { SMALL_ROUNDS = 400, SMALL_CALLS = 4000, LARGE_ROUNDS = 8, IMAGE = 64 << 20, ROOM = IMAGE + (1 << 16) };
 
-/* The voxels that one call locates, and the calls of a round. */
+/* The voxels of a row, and how often they are located in a round. */
 enum { VOXELS = 1000, VOXEL_CALLS = 5 };
 
 /* The bytes that the bridge delivers at a time, and the files of a round that come so. */
@@ -65,7 +74,7 @@ static double now(void)
     return t.tv_sec * 1e9 + t.tv_nsec;
 }
 
-/* The ways of a row; the last, of a file in pieces alone, is the library's reading of the whole. */
+/* The ways of a row; the last, of a file in pieces and of a voxel by what was read before, is the library's on the whole file. */
 typedef void way(void);
 
 enum { LIBRARY, MEMCPY, MEMMOVE, PLAIN, WHOLE, WAYS };
@@ -237,6 +246,72 @@ static void small_rows(int extensions, int big)
 
 static vestumbral_file read_before;
 
+/* Indexes of axes 1 to 3 that the compiler cannot know: the table is made by a seed that is read at run time. */
+static uint16_t indexes[VOXELS][3];
+
+static void make_indexes(const int dims[4])
+{
+    static volatile uint64_t start = 88172645463325252;
+    uint64_t n = start;
+    for (int v = 0; v < VOXELS; v++)
+        for (int axis = 0; axis < 3; axis++) {
+            n ^= n << 13;
+            n ^= n >> 7;
+            n ^= n << 17;
+            indexes[v][axis] = n % dims[axis + 1];
+        }
+}
+
+typedef vestumbral_reply locate(vestumbral_file, uint64_t, uint64_t, uint64_t, uint64_t, uint64_t, uint64_t, uint64_t, uint64_t);
+
+/* The sum of the places, by the library's call or plain C's. */
+static inline __attribute__((always_inline)) void locate_all(locate *voxel_in)
+{
+    uint64_t sum = 0;
+    for (int v = 0; v < VOXELS; v++) {
+        const uint16_t *at = indexes[v];
+        vestumbral_reply reply = voxel_in(read_before, 0, at[0], at[1], at[2], 0, 0, 0, 0);
+        sum += reply.place + reply.refusal;
+    }
+    sink = sum;
+}
+
+static void in_library(void) { locate_all(vestumbral_voxel_in); }
+static void in_plain(void) { locate_all(plain_voxel_in); }
+
+static void in_file(void)
+{
+    uint64_t sum = 0;
+    for (int v = 0; v < VOXELS; v++) {
+        const uint16_t *at = indexes[v];
+        vestumbral_reply reply = vestumbral_voxel(work, file_len, NULL, 0, at[0], at[1], at[2], 0, 0, 0, 0);
+        sum += reply.place + reply.refusal;
+    }
+    sink = sum;
+}
+
+static size_t place_of(int v)
+{
+    const uint16_t *at = indexes[v];
+    return looked_at + at[0] * read_before.step[0] + at[1] * read_before.step[1] + at[2] * read_before.step[2];
+}
+
+static void in_copy(void)
+{
+    for (int v = 0; v < VOXELS; v++) {
+        memcpy(copy + v * unit, work + place_of(v), unit);
+        sink = copy[v * unit];
+    }
+}
+
+static void in_move(void)
+{
+    for (int v = 0; v < VOXELS; v++) {
+        memmove(copy + v * unit, copy + place_of(v), unit);
+        sink = copy[v * unit];
+    }
+}
+
 static void record_library(void) { sink = voxel_run_by_record(work, file_len, VOXELS); }
 static void file_library(void) { sink = voxel_run_by_file(work, file_len, VOXELS); }
 
@@ -244,15 +319,8 @@ static void record_plain(void)
 {
     uint64_t most = 0;
     for (uint64_t k = 0; k < VOXELS; k++) {
-        const uint64_t index[3] = {k, 0, 0};
-        uint64_t voxel = 0, place = 0;
-        for (int i = 2; i >= 0; i--) {
-            if (index[i] >= (uint64_t)read_before.dim[i + 1])
-                break;
-            voxel = index[i] + read_before.dim[i + 1] * voxel;
-            place = read_before.data_offset + read_before.bitpix / 8 * voxel;
-        }
-        most = place > most ? place : most;
+        plain_place voxel = plain_place_of(&read_before, k, 0, 0, 0, 0, 0, 0);
+        most = voxel.place > most ? voxel.place : most;
     }
     sink = most;
 }
@@ -283,25 +351,33 @@ static void voxels_move(void)
     }
 }
 
-/* The same voxels of the same file by the record of one reading, and by the file. */
+/* Voxels of the same file by what was read before, by the record of one reading, and by the file. */
 static void voxel_rows(int extensions)
 {
     static const int dims[4] = {3, 1024, 4, 4};
-    static way *const ways[2][WAYS] = {{record_library, voxels_copy, voxels_move, record_plain},
-                                       {file_library, voxels_copy, voxels_move, file_plain}};
+    static const struct { const char *name; way *ways[WAYS]; } rows[3] = {
+        {"voxel_in", {in_library, in_copy, in_move, in_plain, in_file}},
+        {"voxel by record", {record_library, voxels_copy, voxels_move, record_plain}},
+        {"voxel by file", {file_library, voxels_copy, voxels_move, file_plain}}};
     char input[32];
     snprintf(input, sizeof input, "%d voxels, %d extensions", VOXELS, extensions);
     file_len = make(extensions, dims, 4, 16);
     unit = 2;
     looked_at = 352 + 32 * extensions;
-    read_before = plain_read(work, file_len);
-    for (int by_file = 0; by_file < 2; by_file++) {
-        for (int w = LIBRARY; w <= PLAIN; w += PLAIN - LIBRARY) {
-            ways[by_file][w]();
-            if (sink != looked_at + unit * (VOXELS - 1))
-                fail("another place is answered for the farthest voxel");
+    read_before = vestumbral_read(work, file_len);
+    make_indexes(dims);
+    uint64_t farthest = looked_at + unit * (VOXELS - 1), sum = 0;
+    for (int v = 0; v < VOXELS; v++)
+        sum += looked_at + unit * (indexes[v][0] + dims[1] * (indexes[v][1] + (size_t)dims[2] * indexes[v][2]));
+    for (int i = 0; i < 3; i++) {
+        for (int w = LIBRARY; w < WAYS; w++) {
+            if (!rows[i].ways[w] || w == MEMCPY || w == MEMMOVE)
+                continue;
+            rows[i].ways[w]();
+            if (sink != (i == 0 ? sum : farthest))
+                fail("another place is answered for a voxel");
         }
-        row(by_file ? "voxel by file" : "voxel by record", input, ways[by_file], SMALL_ROUNDS, VOXEL_CALLS, VOXELS);
+        row(rows[i].name, input, rows[i].ways, SMALL_ROUNDS, VOXEL_CALLS, VOXELS);
     }
 }
 
@@ -582,6 +658,10 @@ static void compare_calls(size_t length)
         fail("plain C answers another position");
     same_replies(vestumbral_voxel(work, length, images[0], image_len, i, j, k, 0, 0, 0, last),
                  plain_voxel(work, length, images[0], image_len, i, j, k, 0, 0, 0, last));
+    same_replies(vestumbral_voxel_in(f, image_len, i, j, k, 0, 0, 0, last),
+                 vestumbral_voxel(work, length, images[0], image_len, i, j, k, 0, 0, 0, last));
+    if (!f.pair) /* plain C does not judge a pair's image file */
+        same_replies(vestumbral_voxel_in(f, 0, i, j, k, 0, 0, 0, last), plain_voxel_in(g, 0, i, j, k, 0, 0, 0, last));
     compare_turns(length, images[0], image_len);
     memcpy(other, work, SIZE);
     memcpy(images[1], images[0], IMAGE_SIZE);
@@ -644,7 +724,7 @@ int main(void)
     printf("ns of one call (of one voxel where %d are located and of a turn, of one piece of 64 MiB), best of %d rounds (%d for "
            "64 MiB, %d for a turn), buffers written first\n", VOXELS, SMALL_ROUNDS, LARGE_ROUNDS, TURN_ROUNDS);
     printf("a ratio is the library's time over the other's\n");
-    printf("%-15s %-26s %14s %9s %9s %9s %9s\n", "call", "input", "ns", "/memcpy", "/memmove", "/plain C", "/read");
+    printf("%-15s %-26s %14s %9s %9s %9s %9s\n", "call", "input", "ns", "/memcpy", "/memmove", "/plain C", "/whole");
     static const int counts[4] = {0, 1, 8, 64};
     for (int big = 0; big < 2; big++)
         for (int i = 0; i < 4; i++)

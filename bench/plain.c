@@ -55,6 +55,41 @@ vestumbral_reply plain_voxel(const uint8_t *file, size_t file_len, const uint8_t
     return (vestumbral_reply){.place = o.offset + bytes * number, .length = bytes};
 }
 
+/* The sum of index x step over the seven axes; false where an index is outside its axis, and an axis after dim[0] has one voxel. */
+static inline bool add_steps(const vestumbral_file *file, const uint64_t index[7], uint64_t *sum)
+{
+    for (int i = 0; i < 7; i++) {
+        int length = i < file->dim[0] ? file->dim[i + 1] : 1;
+        if (index[i] >= (uint64_t)(length < 0 ? 0 : length))
+            return false;
+        *sum += index[i] * file->step[i];
+    }
+    return true;
+}
+
+vestumbral_reply plain_voxel_in(vestumbral_file file, uint64_t image_len,
+                                uint64_t i1, uint64_t i2, uint64_t i3, uint64_t i4, uint64_t i5, uint64_t i6, uint64_t i7)
+{
+    (void)image_len;
+    if (file.refusal != 0)
+        return (vestumbral_reply){.refusal = file.refusal, .place = file.place};
+    const uint64_t index[7] = {i1, i2, i3, i4, i5, i6, i7};
+    uint64_t place = file.data_offset;
+    if (!add_steps(&file, index, &place))
+        return (vestumbral_reply){.refusal = 17};
+    return (vestumbral_reply){.place = place, .length = file.step[0]};
+}
+
+plain_place plain_place_of(const vestumbral_file *file,
+                           uint64_t i1, uint64_t i2, uint64_t i3, uint64_t i4, uint64_t i5, uint64_t i6, uint64_t i7)
+{
+    const uint64_t index[7] = {i1, i2, i3, i4, i5, i6, i7};
+    uint64_t place = file->data_offset;
+    if (!add_steps(file, index, &place))
+        return (plain_place){0, 0};
+    return (plain_place){place, file->step[0]};
+}
+
 /* A slice's turn, by its code and its distance from the first or the last slice. */
 static uint32_t rank_of(int code, int start, int end, int slice)
 {

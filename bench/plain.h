@@ -1,6 +1,7 @@
 /*
- * The library's fourteen calls written plainly in C (plain.c, plain_pieces.c for those of a file in pieces, plain_turn.c for the
- * last): same arguments, same answers, same bytes left in every buffer.
+ * The library's fifteen calls written plainly in C (plain.c, plain_pieces.c for those of a file in pieces, plain_turn.c for the
+ * last): same arguments, same answers, same bytes left in every buffer. But plain_voxel_in is for single files that were read, and
+ * judges nothing but the struct's own refusal and 17.
  */
 #ifndef BENCH_PLAIN_H
 #define BENCH_PLAIN_H
@@ -11,6 +12,8 @@ vestumbral_file plain_read(const uint8_t *file, size_t file_len);
 vestumbral_extension plain_extension_at(const uint8_t *file, size_t file_len, uint64_t number);
 vestumbral_reply plain_voxel(const uint8_t *file, size_t file_len, const uint8_t *image, size_t image_len,
                              uint64_t i1, uint64_t i2, uint64_t i3, uint64_t i4, uint64_t i5, uint64_t i6, uint64_t i7);
+vestumbral_reply plain_voxel_in(vestumbral_file file, uint64_t image_len,
+                                uint64_t i1, uint64_t i2, uint64_t i3, uint64_t i4, uint64_t i5, uint64_t i6, uint64_t i7);
 vestumbral_slice plain_slice_at(const uint8_t *file, size_t file_len, uint64_t slice);
 vestumbral_position plain_position_of(const uint8_t *file, size_t file_len, uint64_t i, uint64_t j, uint64_t k);
 vestumbral_reply plain_swap(uint8_t *file, size_t file_len, uint8_t *image, size_t image_len);
@@ -27,5 +30,13 @@ vestumbral_turned plain_turn(const uint8_t *file, size_t file_len, const uint8_t
                              uint64_t axis1, uint64_t axis2, uint64_t axis3,
                              uint64_t reverse1, uint64_t reverse2, uint64_t reverse3,
                              uint8_t *out, size_t out_len, uint8_t *out_image, size_t out_image_len);
+
+/* Where a voxel is and how many bytes it has; 0 and 0 where an index is outside. The file was read before and is accepted. */
+typedef struct {
+    uint64_t place, length;
+} plain_place;
+
+plain_place plain_place_of(const vestumbral_file *file,
+                           uint64_t i1, uint64_t i2, uint64_t i3, uint64_t i4, uint64_t i5, uint64_t i6, uint64_t i7);
 
 #endif

@@ -165,6 +165,11 @@ static inline vestumbral_file shown(bool accepted, const struct outline *o)
     vestumbral_file answer = {.data_offset = o->offset, .data_bytes = o->bytes, .big_endian = o->big, .pair = o->pair,
                               .datatype = o->datatype, .bitpix = o->bitpix, .extensions = o->extensions};
     memcpy(answer.dim, o->dim, sizeof answer.dim);
+    uint64_t step = o->bitpix / 8;
+    for (int i = 0; i < 7; i++) {
+        answer.step[i] = step;
+        step *= i < o->dim[0] ? o->dim[i + 1] : 1;
+    }
     return answer;
 }
 
