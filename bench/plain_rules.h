@@ -158,13 +158,24 @@ static inline bool judge_front(const uint8_t *file, uint64_t length, struct outl
     return true;
 }
 
+/* One struct, its members set one after the other: so gcc copies it once at most. */
 static inline vestumbral_file shown(bool accepted, const struct outline *o)
 {
-    if (!accepted)
-        return (vestumbral_file){.refusal = o->refusal, .place = o->place};
-    vestumbral_file answer = {.data_offset = o->offset, .data_bytes = o->bytes, .big_endian = o->big, .pair = o->pair,
-                              .datatype = o->datatype, .bitpix = o->bitpix, .extensions = o->extensions};
-    memcpy(answer.dim, o->dim, sizeof answer.dim);
+    vestumbral_file answer = {0};
+    if (!accepted) {
+        answer.refusal = o->refusal;
+        answer.place = o->place;
+        return answer;
+    }
+    answer.data_offset = o->offset;
+    answer.data_bytes = o->bytes;
+    answer.big_endian = o->big;
+    answer.pair = o->pair;
+    for (int i = 0; i < 8; i++)
+        answer.dim[i] = o->dim[i];
+    answer.datatype = o->datatype;
+    answer.bitpix = o->bitpix;
+    answer.extensions = o->extensions;
     uint64_t step = o->bitpix / 8;
     for (int i = 0; i < 7; i++) {
         answer.step[i] = step;
