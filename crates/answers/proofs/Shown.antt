@@ -6,7 +6,7 @@ use Rattle.refusal.specs.declared.Refusal.{Refusal}
 use Rattle.extension.specs.declared.Span.{Span}
 use Rattle.extension.specs.Listing.{spansOf}
 use Rattle.header.specs.Fields.{headerOf}
-use Rattle.rules.specs.Rules.{sized}
+use Rattle.rules.specs.Rules.{completed}
 use Rattle.reader.specs.Reading.{readingOf}
 use Rattle.outline.specs.declared.Outline.{Outline}
 use Rattle.outline.specs.declared.Outlined.the-variants.{Shown, Hidden}
@@ -28,7 +28,7 @@ module _ (s : List ℕ) (wanted : ℕ) where
     abbrev spans : List Span
     spans = spansOf (shows s wanted o e .list)
 
-    pub shown-file : shownFile (sized (headerOf (o .layout .order) (o .layout .kind) (o .count) spans s)) (o .layout .image)
+    pub shown-file : shownFile (completed (headerOf (o .layout .order) (o .layout .kind) (o .count) spans s)) (o .layout .image)
         ≡ fileAnswer (readingOf s)
     unfolding fileAnswer
     shown-file = sym (ap fileAnswer (shown-reading s wanted o e))

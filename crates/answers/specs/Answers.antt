@@ -1,7 +1,7 @@
 -- The structs of the C interface: for each answer of the library, the paper's number and values of each case. Refusal 0 stands for
 -- success, and beside a refusal every other number but the place is 0.
 use Prim.Native.Nat.{ℕ}
-use mathlib.Core.Bool.{cond, false}
+use mathlib.Core.Bool.{Bool, true, false, cond}
 use lib.Dec.{ltb}
 use lib.IntN.{pos}
 use lib.Ieee.{Float, fin}
@@ -35,21 +35,26 @@ use Rattle.answers.specs.declared.PositionAnswer.{PositionAnswer}
 
 -- a refusal as a reply
 abbrev pub refusedReply : Refusal → Reply
-refusedReply r = record { refusal = r .number; place = r .place; length = 0 }
+refusedReply r = record { refusal = r .number; place = r .place; length = 0; aligned = 0 }
 
 -- a voxel's place and length
 abbrev pub voxelReply : Located → Reply
-voxelReply (At e) = record { refusal = 0; place = e .place; length = e .length }
+voxelReply (At e) = record { refusal = 0; place = e .place; length = e .length; aligned = 0 }
 voxelReply (Unlocated r) = refusedReply r
 
 -- a swap has no number of its own
 abbrev pub swapReply : Verdict → Reply
-swapReply Accepted = record { refusal = 0; place = 0; length = 0 }
+swapReply Accepted = record { refusal = 0; place = 0; length = 0; aligned = 0 }
 swapReply (Refused r) = refusedReply r
 
--- an edit answers the new length
+-- "aligned yes" and "aligned no" as a number
+abbrev pub isAligned : Bool → ℕ
+isAligned true = 1
+isAligned false = 0
+
+-- an edit answers the new length, and whether the new offset is aligned
 abbrev pub editReply : Edited → Reply
-editReply (Done file) = record { refusal = 0; place = 0; length = file .length }
+editReply (Done file) = record { refusal = 0; place = 0; length = file .length; aligned = isAligned (file .aligned) }
 editReply (Denied r) = refusedReply r
 
 abbrev pub bigEndian : Order → ℕ
@@ -75,6 +80,7 @@ shownFile h i =
       bitpix = h .intent .bitpix;
       extensions = h .count;
       step = h .sizes .steps;
+      aligned = isAligned (h .aligned);
     }
 
 abbrev pub refusedFile : Refusal → FileAnswer
@@ -91,6 +97,7 @@ refusedFile r =
       bitpix = pos 0;
       extensions = 0;
       step = replicate 7 0;
+      aligned = 0;
     }
 
 unfoldable pub fileAnswer : Reading → FileAnswer

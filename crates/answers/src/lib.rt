@@ -4,7 +4,7 @@
 ghost use mathlib.Core.Path.{_≡_};
 ghost use Rattle.reader.specs.Reading.{readingOf};
 ghost use Rattle.outline.specs.Outline.{outlineOf};
-ghost use Rattle.answers.specs.Answers.{refusedReply, voxelReply, swapReply, editReply, bigEndian, isPair};
+ghost use Rattle.answers.specs.Answers.{refusedReply, voxelReply, swapReply, editReply, bigEndian, isPair, isAligned};
 ghost use Rattle.answers.specs.Answers.{refusedFile, fileAnswer, refusedExtension, extensionShown, sliceAnswer};
 ghost use Rattle.answers.specs.Answers.{positionAnswer};
 use edit::Edited;
@@ -18,12 +18,13 @@ use refusal::Verdict;
 use timing::Slice;
 use voxel::Located;
 
-// The answer of voxel, swap and edit.
+// The answer of voxel, swap and edit; `aligned` is said by an edit alone.
 #[repr(C)]
 pub struct Reply {
     pub refusal: u64,
     pub place: u64,
     pub length: u64,
+    pub aligned: u64,
 }
 
 // What reading a file answers.
@@ -40,6 +41,7 @@ pub struct FileAnswer {
     pub bitpix: i16,
     pub extensions: u32,
     pub step: [u64; 7],
+    pub aligned: u32,
 }
 
 // One extension.
@@ -79,6 +81,7 @@ fn refused_reply(r: Refusal) -> Reply
         refusal: r.number,
         place: r.place as u64,
         length: 0,
+        aligned: 0,
     }
 }
 
@@ -97,6 +100,7 @@ pub fn refused_file(r: Refusal) -> FileAnswer
         bitpix: 0,
         extensions: 0,
         step: [0u64; 7],
+        aligned: 0,
     }
 }
 
@@ -116,6 +120,12 @@ pub fn is_pair(kind: Kind) -> u32
         Kind::Single => 0,
         Kind::Pair => 1,
     }
+}
+
+pub fn is_aligned(aligned: bool) -> u32
+    ensures { λ a. ⌜ a ≡ isAligned aligned ⌝ }
+{
+    if aligned { 1 } else { 0 }
 }
 
 // An accepted file: what its outline has, three fields beside it and the steps that they give, so that no record is made.
@@ -144,6 +154,7 @@ pub fn shown_file(file: &[u8], outline: Outline) -> FileAnswer
         bitpix,
         extensions: count,
         step,
+        aligned: is_aligned(layout.aligned),
     }
 }
 
@@ -187,6 +198,7 @@ pub fn voxel_reply(located: Located) -> Reply
             refusal: 0,
             place: e.place,
             length: e.length,
+            aligned: 0,
         },
         Located::Unlocated(r) => refused_reply(r),
     }
@@ -255,6 +267,7 @@ pub fn swap_reply(verdict: Verdict) -> Reply
             refusal: 0,
             place: 0,
             length: 0,
+            aligned: 0,
         },
         Verdict::Refused(r) => refused_reply(r),
     }
@@ -268,6 +281,7 @@ pub fn edit_reply(edited: Edited) -> Reply
             refusal: 0,
             place: 0,
             length: file.length as u64,
+            aligned: is_aligned(file.aligned) as u64,
         },
         Edited::Denied(r) => refused_reply(r),
     }

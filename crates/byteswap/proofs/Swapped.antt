@@ -22,7 +22,7 @@ use Rattle.header.specs.declared.Kind.{Kind}
 use Rattle.header.specs.declared.Kind.the-variants.{Single, Pair}
 use Rattle.header.specs.Fields.{headerOf, inOrder}
 use Rattle.rules.specs.declared.Image.{Image}
-use Rattle.rules.specs.Rules.{imageOf, sized, cutShort, regionEnd}
+use Rattle.rules.specs.Rules.{imageOf, completed, cutShort, regionEnd}
 use Rattle.layout.specs.File.{holdsIn, orderOf, hasMagic, kindOf, shapeIn, shapeOf, extenderOf, hasExtensions, cutExtender, layoutOf, endOf}
 use Rattle.reader.specs.Reading.{extensionsOf, readingOf}
 use Rattle.reader.proofs.File.{regionOf, Rules, AcceptedFile, judged-file, file-judged, file-reads}
@@ -170,5 +170,5 @@ module _ {s : List ℕ} {xs : List Span} (f : AcceptedFile s xs) where
   unfolding headerOf
   reading-swapped =
       file-reads swapped xs swapped-file
-      ∙ (λ i. record { verdict = Accepted; header = sized (header-is i); image = imageOf (shape-is i) })
+      ∙ (λ i. record { verdict = Accepted; header = completed (header-is i); image = imageOf (shape-is i) })
       ∙ sym (ap readInOther (file-reads s xs f))

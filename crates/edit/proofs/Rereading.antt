@@ -17,8 +17,8 @@ use Rattle.field.specs.Numbers.{u32At, i32At, joined}
 use Rattle.field.proofs.Tabulate.{bytesAt-part}
 use Rattle.refusal.specs.declared.Verdict.the-variants.{Accepted}
 use Rattle.number.proofs.Lists.{drop-take}
-use Rattle.offset.specs.Offset.{offsetLimit, offsetBits, isWhole, wholeOf}
-use Rattle.offset.proofs.Back.{back-whole, back-value}
+use Rattle.offset.specs.Offset.{offsetLimit, offsetBits, isWhole, wholeOf, alignedOf}
+use Rattle.offset.proofs.Back.{back-whole, back-value, back-aligned}
 use Rattle.extension.specs.declared.Span.{Span}
 use Rattle.extension.specs.Walk.{extensionLimit, firstPlace, listed, extensionsIn}
 use Rattle.extension.specs.Listing.{spansOf}
@@ -30,14 +30,15 @@ use Rattle.header.specs.Fields.{headerOf}
 use Rattle.header.proofs.Distinct.{single-never}
 use Rattle.rules.specs.declared.Shape.{Shape}
 use Rattle.rules.specs.declared.Image.{Image}
-use Rattle.rules.specs.Rules.{imageOf, offsetOutside, shapeOfRecord, sized, cutShort, regionEnd}
+use Rattle.rules.specs.Rules.{imageOf, alignedIn, offsetOutside, shapeOfRecord, completed, cutShort, regionEnd}
 use Rattle.rules.proofs.Passed.{neither, Fields}
 use Rattle.layout.specs.File.{orderOf, kindOf, shapeIn, shapeOf, cutExtender, extenderOf, saysSome, hasExtensions}
-use Rattle.layout.specs.File.{layoutOf, endOf}
+use Rattle.layout.specs.File.{alignedFile, layoutOf, endOf}
 use Rattle.reader.specs.declared.Reading.{Reading}
 use Rattle.reader.specs.Reading.{extensionsOf, readingOf}
 use Rattle.reader.proofs.File.{regionOf, Rules, AcceptedFile, judged-file, file-judged, file-reads}
 use Rattle.edit_plan.specs.Fresh.{extensionList, tailBy, tailOf, extenderFor, endFor, headFor, freshFile}
+use Rattle.edit_plan.specs.Planned.{alignedAfter}
 use Rattle.edit_plan.proofs.Planning.{length-extender, length-top, length-fresh}
 use Rattle.edit.specs.After.{anewIn, readAfter}
 use Rattle.edit.proofs.Keeping.{agrees, same-holds, same-order, same-magic, same-kind, header-is}
@@ -157,6 +158,15 @@ module _ (f : List ℕ) (xs : List (List ℕ)) (long : 348 ≤ length f) where
         by Single = back-value (endFor xs) (e .units) (e .most)
         by Pair = refl
 
+    -- and its offset is aligned; a pair's is what it was
+    pub aligned-is : alignedFile g ≡ alignedAfter (kindOf f) (alignedFile f)
+    unfolding shapeIn
+    aligned-is = ap alignedIn shape-is ∙ by (kindOf f)
+      where
+        by : (k : Kind) → alignedOf (anewIn k (offsetBits (endFor xs)) (u32At (orderOf f) f 108)) ≡ alignedAfter k (alignedOf (u32At (orderOf f) f 108))
+        by Single = back-aligned (endFor xs) (e .units) (e .most)
+        by Pair = refl
+
     image-moved : kindOf f ≡ Single → imageOf (shapeOf g) .offset ≡ endFor xs
     image-moved k = ap (λ (i : Image). i .offset) image-is ∙ ap (λ (x : Kind). anewIn x (endFor xs) (imageOf (shapeOf f) .offset)) k
 
@@ -245,7 +255,7 @@ module _ (f : List ℕ) (xs : List (List ℕ)) (long : 348 ≤ length f) where
       reads-new old a =
           let n : length ss ≡ length xs = length-spansFrom (orderOf f) firstPlace xs in
           file-reads g ss (new-file (a .rules))
-          ∙ (λ i. record { verdict = Accepted; header = sized (header-is f xs long (n i) (spansOf ss) i); image = image-is i })
+          ∙ (λ i. record { verdict = Accepted; header = completed (header-is f xs long (n i) (spansOf ss) i); image = image-is i })
           ∙ sym (ap (λ (r : Reading). readAfter r xs) (file-reads f old a))
 
     pub tail-new : tailOf g ≡ tailOf f

@@ -24,17 +24,17 @@ use Rattle.header.specs.Fields.{headerOf}
 use Rattle.rules.specs.declared.Image.{Image}
 use Rattle.rules.specs.declared.Shape.{Shape}
 use Rattle.rules.specs.Rules.{imageOf}
-use Rattle.layout.specs.File.{kindOf, shapeIn, shapeOf, extenderOf, endOf}
+use Rattle.layout.specs.File.{kindOf, shapeIn, shapeOf, alignedFile, extenderOf, endOf}
 use Rattle.reader.specs.declared.Reading.{Reading}
 use Rattle.reader.specs.Reading.{readingOf, IsAccepted}
-use Rattle.reader.proofs.File.{AcceptedFile, accepted-file, accepted-reads, accepted-image, accepted-shape}
+use Rattle.reader.proofs.File.{AcceptedFile, accepted-file, accepted-reads, accepted-image, accepted-shape, accepted-fact}
 use Rattle.buffer.specs.Settled.{settled}
 use Rattle.buffer.proofs.Settled.{take-settled}
 use Rattle.change.specs.declared.Change.{Change}
 use Rattle.change.specs.declared.Change.the-variants.{Remove}
 use Rattle.edit_plan.specs.Fresh.{extensionList, editedList, extenderFor, endFor, freshOf}
 use Rattle.edit_plan.specs.Refusals.{tooMuch, changeRows, changeVerdict}
-use Rattle.edit_plan.specs.Planned.{bytesOut}
+use Rattle.edit_plan.specs.Planned.{bytesOut, alignedAfter, planOf}
 use Rattle.edit_plan.proofs.Exchanging.{joined-some, joined-units}
 use Rattle.edit_plan.proofs.Cutting.{list-complete, length-list}
 use Rattle.edit_plan.proofs.Planning.{countOf, regionTo, out-inside, whole-new, much-is}
@@ -45,7 +45,7 @@ use Rattle.edit.specs.Outcome.{Outcome, editVerdict, fresh, refused, out
 use Rattle.edit.specs.After.{readAfter}
 use Rattle.edit.proofs.Outcomes.{outcome-is}
 use Rattle.edit.proofs.Keeping.{same-bytes, same-kind, pair-head}
-use Rattle.edit.proofs.Rereading.{Ends, tail-single, extender-at, new-long, list-new, reads-new, tail-new}
+use Rattle.edit.proofs.Rereading.{Ends, tail-single, extender-at, new-long, aligned-is, list-new, reads-new, tail-new}
 
 -- an edit that is done is not denied
 pub denied-never {ℓ} : {A : Type ℓ} {r : Refusal} {n : NewFile} → Denied r ≡ Done n → A
@@ -75,6 +75,8 @@ pub record Renewed (f g : List ℕ) (xs : List (List ℕ)) : Type 0 where
   pub single : readingOf f .header .kind ≡ Single → Moved f g
   -- in a pair the header's bytes stay as they are
   pub pair : readingOf f .header .kind ≡ Pair → take 348 g ≡ take 348 f
+  -- P6: a single file's new offset is aligned, always; a pair's is as aligned as it was
+  pub aligned : readingOf g .header .aligned ≡ alignedAfter (readingOf f .header .kind) (readingOf f .header .aligned)
 
 module _ (f : List ℕ) (room : ℕ) (change : Change) (code : ℤ) (p : List ℕ) (fits : SFits w32 code)
     (go : changeVerdict f room change code p ≡ Accepted) where
@@ -146,7 +148,16 @@ module _ (f : List ℕ) (room : ℕ) (change : Change) (code : ℤ) (p : List �
         extender = extender-at f xs long;
         single = λ k. moved (sym kind-old ∙ k);
         pair = λ k. pair-head f xs long (sym kind-old ∙ k);
+        aligned =
+            accepted-fact g new-accepted
+            ∙ aligned-is f xs long ends
+            ∙ (λ i. alignedAfter (sym kind-old i) (sym (accepted-fact f (may .accepted)) i));
       }
+
+  -- the plan says the same of the fresh file
+  pub plan-aligned : planOf f change code p .aligned ≡ alignedFile g
+  unfolding planOf
+  plan-aligned = sym (aligned-is f xs long ends)
 
 -- ---- the buffer
 
@@ -161,10 +172,15 @@ pub record Carried (l : List ℕ) (len : ℕ) (change : Change) (code : ℤ) (p 
   -- "The whole buffer afterwards equals the fresh file and, past its end, what the exact rules say, to the last byte."
   pub whole : b ≡ settled l len (freshOf (take len l) change code p)
   pub new-inside : new .length ≤ length l
+  -- P6: "an edit beside its new length, for the new offset": what reading the new file says
+  pub aligned : new .aligned ≡ readingOf (take (new .length) b) .header .aligned
   pub renewed : Renewed (take len l) (take (new .length) b) (editedList (take len l) change code p)
 
-done-is : (o : Outcome) (new : NewFile) → editAnswer o ≡ Done new → (g : List ℕ) × (o ≡ fresh g) × (length g ≡ new .length)
-done-is (fresh g) new e = let n : record { length = length g } ≡ new = cc in (g, refl, ap (λ (x : NewFile). x .length) n)
+done-is : (o : Outcome) (new : NewFile) → editAnswer o ≡ Done new
+    → (g : List ℕ) × (o ≡ fresh g) × (length g ≡ new .length) × (alignedFile g ≡ new .aligned)
+done-is (fresh g) new e =
+    let n : record { length = length g; aligned = alignedFile g } ≡ new = cc in
+    (g, refl, ap (λ (x : NewFile). x .length) n, ap (λ (x : NewFile). x .aligned) n)
 done-is (refused r) new e = denied-never e
 
 pub fresh-never {ℓ} : {A : Type ℓ} {r : Refusal} {g : List ℕ} → refused r ≡ fresh g → A
@@ -190,6 +206,7 @@ edit-carried l len change code p new fits e =
     let w : bufferAfter l len (outcomeOf l len change code p) ≡ settled l len g = ap (bufferAfter l len) (d .1 ∙ ap fresh same) in
     let t : take (new .length) (bufferAfter l len (outcomeOf l len change code p)) ≡ g = rw (w, ← n) (take-settled l len g) in
     let a = allowed f (length l) change code p (first .1) in
+    let whole = subst (λ (x : List ℕ). Renewed f x (editedList f change code p)) (sym t) (renewed f (length l) change code p fits (first .1)) in
     record {
       inside = inside;
       accepted = a .accepted;
@@ -197,7 +214,8 @@ edit-carried l len change code p new fits e =
       holds = t;
       whole = w;
       new-inside = rw (← n) (a .fits);
-      renewed = subst (λ (x : List ℕ). Renewed f x (editedList f change code p)) (sym t) (renewed f (length l) change code p fits (first .1));
+      aligned = sym (d .3) ∙ ap alignedFile (same ∙ sym t) ∙ sym (accepted-fact _ (whole .accepted));
+      renewed = whole;
     }
 
 -- a refusal "leaves all lent buffers as they stood"

@@ -10,6 +10,7 @@ use Rattle.extension.specs.Pieces.{spansFrom}
 use Rattle.header.specs.declared.Kind.{Kind}
 use Rattle.header.specs.declared.Kind.the-variants.{Single, Pair}
 use Rattle.header.specs.Fields.{withSpans, withOffset}
+use Rattle.rules.specs.Rules.{realigned}
 use Rattle.reader.specs.declared.Reading.{Reading}
 use Rattle.edit_plan.specs.Fresh.{endFor}
 
@@ -18,13 +19,15 @@ abbrev pub anewIn : Kind → ℕ → ℕ → ℕ
 anewIn Single new old = new
 anewIn Pair new old = old
 
--- the same verdict and fields, the spans of the list from 352 on, and in a single file the new offset
+-- the same verdict and fields, the spans of the list from 352 on, and in a single file the new offset; the aligned fact is that of the
+-- offset (02-change-requests.md, P6: "Swaps and edits leave it true of the offset")
 abbrev pub readAfter : Reading → List (List ℕ) → Reading
 readAfter r xs =
     record {
       verdict = r .verdict;
       header =
           withSpans (length xs) (spansOf (spansFrom (r .header .order) firstPlace xs))
-          (withOffset (anewIn (r .header .kind) (offsetBits (endFor xs)) (r .header .scale .«vox_offset»)) (r .header));
+          (realigned
+          (withOffset (anewIn (r .header .kind) (offsetBits (endFor xs)) (r .header .scale .«vox_offset»)) (r .header)));
       image = record { offset = anewIn (r .header .kind) (endFor xs) (r .image .offset); bytes = r .image .bytes };
     }

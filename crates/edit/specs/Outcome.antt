@@ -8,6 +8,7 @@ use lib.ListN.{length, take}
 use Rattle.refusal.specs.declared.Refusal.{Refusal}
 use Rattle.refusal.specs.declared.Verdict.{Verdict}
 use Rattle.refusal.specs.Table.{row, verdict, decided, then}
+use Rattle.layout.specs.File.{alignedFile}
 use Rattle.buffer.specs.Settled.{settled}
 use Rattle.change.specs.declared.Change.{Change}
 use Rattle.edit_plan.specs.Fresh.{freshOf}
@@ -28,9 +29,10 @@ pub data Outcome : Type 0 where
 unfoldable pub outcomeOf : List ℕ → ℕ → Change → ℤ → List ℕ → Outcome
 outcomeOf l len change code p = decided (editVerdict l len change code p) (fresh (freshOf (take len l) change code p)) refused
 
--- "An edit answers the new length."
+-- "An edit answers the new length", and whether the new offset is aligned: "an edit beside its new length, for the new offset"
+-- (02-change-requests.md, P6), by the same definition as reading the fresh file
 abbrev pub editAnswer : Outcome → Edited
-editAnswer (fresh g) = Done (record { length = length g })
+editAnswer (fresh g) = Done (record { length = length g; aligned = alignedFile g })
 editAnswer (refused r) = Denied r
 
 -- "The buffer afterwards is the fresh file, then zeros up to the old length where that is longer, then its old content"; on a refusal

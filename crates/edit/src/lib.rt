@@ -16,9 +16,10 @@ use edit_plan::Planned;
 use extension::FIRST;
 use refusal::Refusal;
 
-// What is known of the file after an edit.
+// What is known of the file after an edit: its length, and whether its voxel offset is aligned (02-change-requests.md, P6).
 pub struct NewFile {
     pub length: usize,
+    pub aligned: bool,
 }
 
 // What an edit answers: the new file, or a refusal, which leaves every byte of the buffer as it was.
@@ -78,7 +79,10 @@ pub fn apply(buf: &mut [u8], len: usize, change: Change, code: i32, payload: &[u
         Planned::Stop(r) => Edited::Denied(r),
         Planned::Go(x) => {
             let length = splice(buf, len, change, code, payload, x);
-            Edited::Done(NewFile { length })
+            Edited::Done(NewFile {
+                length,
+                aligned: x.aligned,
+            })
         }
     }
 }

@@ -40,7 +40,7 @@ use Rattle.edit_plan.specs.declared.Planned.{Planned}
 use Rattle.edit_plan.specs.declared.Planned.the-variants.{Go, Stop}
 use Rattle.edit_plan.specs.Fresh.{extensionList, outFrom, outTo, broughtIn, editedList, endFor, freshOf}
 use Rattle.edit_plan.specs.Refusals.{entersPrivate, tooMuch, changeRows, changeVerdict}
-use Rattle.edit_plan.specs.Planned.{bytesBefore, bytesOut, planOf, plannedOf}
+use Rattle.edit_plan.specs.Planned.{bytesBefore, bytesOut, alignedAfter, planOf, plannedOf}
 use Rattle.edit_plan.proofs.Cutting.{list-complete, length-list, Cut}
 use Rattle.edit_plan.proofs.Sizing.{stored-complete}
 use Rattle.edit_plan.proofs.Exchanging.{complete-exchange}
@@ -202,7 +202,15 @@ module _ (f : List ℕ) (room : ℕ) (change : Change) (code : ℤ) (p : List �
           (rw whole (lt-ltb room (max (length f) firstPlace - old + new) l))
 
       pub on-go : max (length f) firstPlace - old + new ≤ room
-          → Go (record { order = o .layout .order; kind = o .layout .kind; at = at; old = old; new = new; end = end - old + new })
+          → Go (record {
+            order = o .layout .order;
+            kind = o .layout .kind;
+            at = at;
+            old = old;
+            new = new;
+            end = end - old + new;
+            aligned = alignedAfter (o .layout .kind) (o .layout .aligned);
+          })
           ≡ plannedOf f room change code p
       unfolding planOf
       on-go l =
@@ -210,7 +218,16 @@ module _ (f : List ℕ) (room : ℕ) (change : Change) (code : ℤ) (p : List �
           let n : new ≡ length (joined (broughtIn (orderOf f) change code p)) = new-whole ∙ sym (length-new (orderOf f) change code p) in
           let x : end - old + new ≡ endFor (editedList f change code p) =
           rw (v .end-is, v .old-is, new-whole) (sym (end-new f change (k .present) (k .cut) code p)) in
-          (λ i. Go (record { order = d i .order; kind = d i .kind; at = v .at-is i; old = v .old-is i; new = n i; end = x i }))
+          (λ i.
+          Go (record {
+            order = d i .order;
+            kind = d i .kind;
+            at = v .at-is i;
+            old = v .old-is i;
+            new = n i;
+            end = x i;
+            aligned = alignedAfter (d i .kind) (d i .aligned);
+          }))
           ∙ goes f room change code p accepted (k .present) (k .offered) (k .entered) (sym much ∙ t)
           (rw whole (le-ltb room (max (length f) firstPlace - old + new) l))
 

@@ -4,7 +4,7 @@ ghost use mathlib.Core.Path.{_≡_};
 ghost use Rattle.refusal.specs.Table.{refusal};
 ghost use Rattle.outline.specs.Outline.{outlineOf};
 ghost use Rattle.change.specs.Change.{namedBy};
-ghost use Rattle.edit_plan.specs.Planned.{plannedOf};
+ghost use Rattle.edit_plan.specs.Planned.{plannedOf, alignedAfter};
 use change::Change;
 use extension::FIRST;
 use field::Order;
@@ -14,7 +14,7 @@ use outline::Outlined;
 use refusal::Refusal;
 
 // What an edit is carried out by: at the place `at`, `old` bytes go out and `new` bytes come in, and the region of the
-// extensions then ends at `end`.
+// extensions then ends at `end`. `aligned` is said of the new file's voxel offset (02-change-requests.md, P6).
 pub struct Plan {
     pub order: Order,
     pub kind: Kind,
@@ -22,6 +22,7 @@ pub struct Plan {
     pub old: usize,
     pub new: usize,
     pub end: usize,
+    pub aligned: bool,
 }
 
 pub enum Planned {
@@ -33,6 +34,16 @@ fn stop(number: u64) -> Planned
     ensures { λ r. ⌜ r ≡ Planned.Stop (refusal number 0) ⌝ }
 {
     Planned::Stop(Refusal { number, place: 0 })
+}
+
+// Whether the new file's voxel offset is aligned. A single file's is 352 and a multiple of 16; a pair's stays as it was.
+fn aligned_after(kind: Kind, aligned: bool) -> bool
+    ensures { λ r. ⌜ r ≡ alignedAfter kind aligned ⌝ }
+{
+    match kind {
+        Kind::Single => true,
+        Kind::Pair => aligned,
+    }
 }
 
 // Rules 18 to 22, of a file that reading accepts. A header file of 348 bytes has no extender, and an edit gives it one:
@@ -82,6 +93,7 @@ fn plan_list(
         old,
         new,
         end: next,
+        aligned: aligned_after(kind, layout.aligned),
     })
 }
 

@@ -1,8 +1,9 @@
--- A record that was written reads back as itself, its sizes apart, which are no bytes: the other way round of the round trip in Round.antt
+-- A record that was written reads back as itself, its sizes and aligned fact apart, which are no bytes: the other way round of the round trip in Round.antt
 -- (01-scope.md, demand 2). It is said of a record as reading makes them, `Writable`, which the record of any file that states 348 and its
 -- kind's magic is.
 use Prim.Native.Nat.{ℕ, zero, suc, _+_, _*_, _<_}
 use mathlib.Core.Path.{_≡_, refl, ap, sym, _∙_}
+use mathlib.Core.Bool.{Bool, false}
 use mathlib.Core.List.{List, [], _∷_, _++_, map}
 use native.Mathlib.Omega.{arith}
 use lib.IntN.{ℤ, pos}
@@ -20,7 +21,7 @@ use Rattle.grid.specs.Sizes.{noSizes}
 use Rattle.header.specs.declared.Header.{Header}
 use Rattle.header.specs.declared.Kind.{Kind}
 use Rattle.header.specs.declared.Kind.the-variants.{Single, Pair}
-use Rattle.header.specs.Fields.{magicOf, headerOf, withSizes}
+use Rattle.header.specs.Fields.{magicOf, headerOf, withFacts}
 use Rattle.encode.specs.Encode.{encode, keyBytes, dimBytes, intentBytes, scaleBytes, displayBytes, quaternBytes, rowsBytes}
 
 -- ---- A record as reading makes them: each number fits its field, and each list has its field's length
@@ -86,9 +87,9 @@ pub record Writable (h : Header) : Type 0 where
   pub «aux_file» : length (h .display .«aux_file») ≡ 24
   pub «intent_name» : length (h .rows .«intent_name») ≡ 16
 
--- the sizes play no part
-pub sizes-writable : (sizes : Sizes) {h : Header} → Writable h → Writable (withSizes sizes h)
-sizes-writable sizes w =
+-- the sizes and the aligned fact play no part
+pub facts-writable : (sizes : Sizes) (aligned : Bool) {h : Header} → Writable h → Writable (withFacts sizes aligned h)
+facts-writable sizes aligned w =
     record {
       size = w .size;
       magic = w .magic;
@@ -146,7 +147,7 @@ magic-read Pair rest = refl
 -- ---- The record
 
 pub header-read : (h : Header) (rest : List ℕ) → Writable h
-    → headerOf (h .order) (h .kind) (h .count) (h .spans) (encode h ++ rest) ≡ withSizes noSizes h
+    → headerOf (h .order) (h .kind) (h .count) (h .spans) (encode h ++ rest) ≡ withFacts noSizes false h
 unfolding headerOf u16At u32At padded bytesOf u32sBytes i16sBytes encode keyBytes dimBytes intentBytes scaleBytes displayBytes quaternBytes rowsBytes
 header-read h rest w =
     let o = h .order in
@@ -159,6 +160,7 @@ header-read h rest w =
       count = h .count;
       spans = h .spans;
       sizes = noSizes;
+      aligned = false;
       key =
           record {
             «sizeof_hdr» = (long o (pos 348) (record { sfits = omega arith }) ∙ sym (w .size)) i;

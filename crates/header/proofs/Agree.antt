@@ -141,6 +141,7 @@ module _ (o p : Order) (s t : List ℕ) (a : Agrees o p s t) where
         count = count;
         spans = spans;
         sizes = noSizes;
+        aligned = false;
         key =
             record {
               «sizeof_hdr» = i32 0 refl i;

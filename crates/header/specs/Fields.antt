@@ -1,6 +1,7 @@
 -- The record of a header's bytes: document 003's 43 fields, each at its offset and by its type. 01-scope.md: "Field offsets and
 -- widths are those of source document 003"; "The record has all fields, unused ones too, every float by its 32 bits".
 use Prim.Native.Nat.{ℕ}
+use mathlib.Core.Bool.{Bool, false}
 use mathlib.Core.List.{List, [], _∷_}
 use lib.ListN.{getD}
 use Rattle.field.specs.declared.Order.{Order}
@@ -103,7 +104,8 @@ rowsOf order s =
       magic = bytesAt 344 4 s;
     }
 
--- the whole record; dim is at bytes 40..56. The sizes are no field of the header's bytes: reading puts them in (`sized`, rules/Rules).
+-- the whole record; dim is at bytes 40..56. The sizes and the aligned fact are no fields of the header's bytes: reading puts them in
+-- (`completed`, rules/Rules).
 unfoldable pub headerOf : Order → Kind → ℕ → List Span → List ℕ → Header
 headerOf order kind count spans s =
     record {
@@ -113,6 +115,7 @@ headerOf order kind count spans s =
       count = count;
       spans = spans;
       sizes = noSizes;
+      aligned = false;
       key = keyOf order s;
       intent = intentOf order s;
       scale = scaleOf order s;
@@ -137,6 +140,7 @@ inOrder order h =
       count = h .count;
       spans = h .spans;
       sizes = h .sizes;
+      aligned = h .aligned;
       key = h .key;
       intent = h .intent;
       scale = h .scale;
@@ -155,6 +159,7 @@ withSpans count spans h =
       count = count;
       spans = spans;
       sizes = h .sizes;
+      aligned = h .aligned;
       key = h .key;
       intent = h .intent;
       scale = h .scale;
@@ -163,9 +168,9 @@ withSpans count spans h =
       rows = h .rows;
     }
 
--- its sizes
-abbrev pub withSizes : Sizes → Header → Header
-withSizes sizes h =
+-- what reading works out: its sizes, and whether its voxel offset is aligned
+abbrev pub withFacts : Sizes → Bool → Header → Header
+withFacts sizes aligned h =
     record {
       order = h .order;
       kind = h .kind;
@@ -173,6 +178,7 @@ withSizes sizes h =
       count = h .count;
       spans = h .spans;
       sizes = sizes;
+      aligned = aligned;
       key = h .key;
       intent = h .intent;
       scale = h .scale;
@@ -191,6 +197,7 @@ withOffset bits h =
       count = h .count;
       spans = h .spans;
       sizes = h .sizes;
+      aligned = h .aligned;
       key = h .key;
       intent = h .intent;
       scale =

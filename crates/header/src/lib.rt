@@ -1,6 +1,7 @@
 // The record of a NIfTI-1 header: all 43 fields of source document 003, the unused ones too, every float by its 32
 // bits, so that a NaN's payload survives (01-scope.md, "The record has all fields"). Grouped in file order; the dims,
-// the extension spans, the image's sizes (02-change-requests.md, P4), the byte order and the kind of file stand at the top.
+// the extension spans, the image's sizes (02-change-requests.md, P4), whether the voxel offset is a multiple of 16 (P6), the
+// byte order and the kind of file stand at the top.
 ghost use mathlib.Core.Path.{_≡_};
 ghost use Prim.Native.Nat.{_+_, _<_, _≤_};
 ghost use lib.ListN.{length};
@@ -24,6 +25,7 @@ pub struct Header {
     pub count: usize,
     pub spans: [Span; LIMIT],
     pub sizes: Sizes,
+    pub aligned: bool,
     pub key: Key,
     pub intent: Intent,
     pub scale: Scale,
@@ -273,7 +275,7 @@ fn read_rows(file: &[u8], order: Order) -> Rows
     }
 }
 
-// All of a record that the bytes state: its sizes are not among them.
+// All of a record that the bytes state: its sizes and its aligned fact are not among them.
 fn parse_front(front: &[u8], order: Order, kind: Kind, count: usize, spans: [Span; LIMIT]) -> Header
     requires { ⌜ 348 ≤ length (now front) ⌝ }
     ensures { λ r. ⌜ r ≡ headerOf order kind count spans (now (front .entry)) ⌝ }
@@ -288,6 +290,7 @@ fn parse_front(front: &[u8], order: Order, kind: Kind, count: usize, spans: [Spa
             total: 0,
             steps: [0u64; 7],
         },
+        aligned: false,
         key: read_key(front, order),
         intent: read_intent(front, order),
         scale: read_scale(front, order),

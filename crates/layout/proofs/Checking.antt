@@ -1,7 +1,7 @@
 -- What rules 1 to 12 decide together: the verdicts of rules 1 to 4, 5 to 10, and 11 and 12, one after the other.
 use Prim.Native.Nat.{ℕ, _≤_}
 use mathlib.Core.Path.{_≡_, ap, sym, _∙_}
-use mathlib.Core.Bool.{true}
+use mathlib.Core.Bool.{Bool, true}
 use mathlib.Core.List.{List, _++_}
 use native.Mathlib.Omega.{arith}
 use borrow.Author.Tests.{ltb-false, not-false}
@@ -14,13 +14,13 @@ use Rattle.refusal.proofs.Rows.{Clear, one, accepted-clear, clear-split, verdic
 use Rattle.header.specs.declared.Kind.{Kind}
 use Rattle.rules.specs.declared.Image.{Image}
 use Rattle.rules.specs.declared.Judged.the-variants.{Passed, Failed}
-use Rattle.rules.specs.Rules.{fieldRows, imageOf, judgedOf, Measured}
+use Rattle.rules.specs.Rules.{alignedIn, fieldRows, imageOf, judgedOf, Measured}
 use Rattle.rules.proofs.Passed.{Fields, clear-fields, judged-passed-is, judged-failed-is}
 use Rattle.rules.proofs.Sizes.{fields-measured}
 use Rattle.layout.specs.declared.Start.the-variants.{Read, Unread}
 use Rattle.layout.specs.declared.Layout.{Layout}
 use Rattle.layout.specs.declared.Checked.the-variants.{Fits, Breaks}
-use Rattle.layout.specs.File.{holdsIn, orderOf, kindOf, headRows, startIn, shapeIn, shapeOf, endRows, rowsIn, layoutOf, checkedIn}
+use Rattle.layout.specs.File.{holdsIn, orderOf, kindOf, headRows, startIn, shapeIn, shapeOf, endRows, rowsIn, alignedFile, layoutOf, checkedIn}
 use Rattle.layout.proofs.Starting.{either}
 
 -- what an answer of rules 1 to 4 tells
@@ -81,9 +81,9 @@ module _ (s : List ℕ) (len : ℕ) where
         let f : verdict (fieldRows (shapeOf s) len) ≡ Refused r = judged-failed-is (shapeOf s) len r (rw same-shape at e) in
         by-parts (Refused r) (rw (b .passed, f))
 
-    module _ (image : Image) (e : judgedOf (shapeIn order kind s) len ≡ Passed image) where
-      fields : (verdict (fieldRows (shapeOf s) len) ≡ Accepted) × (imageOf (shapeOf s) ≡ image)
-      fields = judged-passed-is (shapeOf s) len image (rw same-shape at e)
+    module _ (image : Image) (aligned : Bool) (e : judgedOf (shapeIn order kind s) len ≡ Passed image aligned) where
+      fields : (verdict (fieldRows (shapeOf s) len) ≡ Accepted) × (imageOf (shapeOf s) ≡ image) × (alignedFile s ≡ aligned)
+      fields = judged-passed-is (shapeOf s) len image aligned (rw same-shape at e)
 
       with-end : (v : Verdict) → verdict (endRows kind image len) ≡ v → parts ≡ v
       with-end v d = rw (b .passed, fields .0) ((λ i. verdict (endRows (b .kind-is i) (fields .1 i) len)) ∙ d)
@@ -91,9 +91,16 @@ module _ (s : List ℕ) (len : ℕ) where
       pub checks-end : (r : Refusal) → verdict (endRows kind image len) ≡ Refused r → Breaks r ≡ checkedIn s len
       checks-end r d = by-parts (Refused r) (with-end (Refused r) d)
 
-      pub checks-all : verdict (endRows kind image len) ≡ Accepted → Fits (record { order = order; kind = kind; image = image }) ≡ checkedIn s len
+      pub checks-all : verdict (endRows kind image len) ≡ Accepted
+          → Fits (record { order = order; kind = kind; image = image; aligned = aligned }) ≡ checkedIn s len
       checks-all d =
-          (λ i. Fits (record { order = sym (b .order-is) i; kind = sym (b .kind-is) i; image = sym (fields .1) i }))
+          (λ i.
+          Fits (record {
+            order = sym (b .order-is) i;
+            kind = sym (b .kind-is) i;
+            image = sym (fields .1) i;
+            aligned = sym (fields .2) i;
+          }))
           ∙ by-parts Accepted (with-end Accepted d)
 
 -- what the rules' own answer tells
@@ -105,6 +112,10 @@ module _ (s : List ℕ) (len : ℕ) where
   pub checked-breaks : (r : Refusal) → checkedIn s len ≡ Breaks r → verdict (rowsIn s len) ≡ Refused r
   unfolding checkedIn
   checked-breaks r e = let p = decided-refused (verdict (rowsIn s len)) (λ q. breaks-never (sym q)) e in cc (p .1, p .2)
+
+  -- what is said of the offset is said of the fields
+  pub checked-aligned : (l : Layout) → checkedIn s len ≡ Fits l → alignedIn (shapeIn (l .order) (l .kind) s) ≡ l .aligned
+  checked-aligned l e = let p = checked-fits l e in rw (← p .1)
 
   -- of fields that they pass the sizes can be computed
   pub checked-measured : (l : Layout) → checkedIn s len ≡ Fits l → Measured (shapeIn (l .order) (l .kind) s)

@@ -16,7 +16,7 @@ use Rattle.header.specs.declared.Kind.the-variants.{Single, Pair}
 use Rattle.header.specs.Fields.{magicOf}
 use Rattle.rules.specs.declared.Shape.{Shape}
 use Rattle.rules.specs.declared.Image.{Image}
-use Rattle.rules.specs.Rules.{oneToSeven, fieldRows, imageOf, cutShort, regionEnd}
+use Rattle.rules.specs.Rules.{oneToSeven, fieldRows, imageOf, alignedIn, cutShort, regionEnd}
 use Rattle.layout.specs.declared.Start.{Start}
 use Rattle.layout.specs.declared.Start.the-variants.{Read, Unread}
 use Rattle.layout.specs.declared.Layout.{Layout}
@@ -104,9 +104,13 @@ rowsIn s len = headRows s len ++ (fieldRows (shapeOf s) len ++ endRows (kindOf s
 abbrev pub fileRows : List ℕ → List Row
 fileRows s = rowsIn s (length s)
 
--- what is known of a file that these pass: its byte order, its kind, and where its image is
+-- whether a file's voxel offset is aligned, as the offset's reading says (02-change-requests.md, P6)
+abbrev pub alignedFile : List ℕ → Bool
+alignedFile s = alignedIn (shapeOf s)
+
+-- what is known of a file that these pass: its byte order, its kind, where its image is and whether that is aligned
 abbrev pub layoutOf : List ℕ → Layout
-layoutOf s = record { order = orderOf s; kind = kindOf s; image = imageOf (shapeOf s) }
+layoutOf s = record { order = orderOf s; kind = kindOf s; image = imageOf (shapeOf s); aligned = alignedFile s }
 
 unfoldable pub checkedIn : List ℕ → ℕ → Checked
 checkedIn s len = decided (verdict (rowsIn s len)) (Fits (layoutOf s)) Breaks

@@ -26,11 +26,12 @@ pub enum Start {
     Unread(Refusal),
 }
 
-// What rules 1 to 12 leave known.
+// What rules 1 to 12 leave known; `aligned` is what the reading of the voxel offset said (02-change-requests.md, P6).
 pub struct Layout {
     pub order: Order,
     pub kind: Kind,
     pub image: Image,
+    pub aligned: bool,
 }
 
 pub enum Checked {
@@ -193,11 +194,16 @@ fn check_fields(file: &[u8], len: usize, order: Order, kind: Kind) -> Checked
     let judged = rules::judge(shape_in(file, order, kind), len);
     match judged {
         Judged::Failed(r) => Checked::Breaks(r),
-        Judged::Passed(image) => {
+        Judged::Passed(image, aligned) => {
             let end = check_end(len, kind, image);
             match end {
                 Verdict::Refused(r) => Checked::Breaks(r),
-                Verdict::Accepted => Checked::Fits(Layout { order, kind, image }),
+                Verdict::Accepted => Checked::Fits(Layout {
+                    order,
+                    kind,
+                    image,
+                    aligned,
+                }),
             }
         }
     }

@@ -1,4 +1,5 @@
-// Prints what reading a file answered, as 01-scope.md lists it ("Numbers on each side"), for the programs that list a file.
+// Prints what reading a file answered, as 01-scope.md lists it ("Numbers on each side") with the line that P6 of
+// 02-change-requests.md adds, for the programs that list a file.
 // What it prints is tested and not proved.
 use extension::LIMIT;
 use extension::Span;
@@ -74,6 +75,14 @@ fn put_image(image: Image) {
     put(b"\n");
 }
 
+fn put_aligned(aligned: bool) {
+    if aligned {
+        put(b"aligned yes\n");
+    } else {
+        put(b"aligned no\n");
+    }
+}
+
 fn put_span(x: Span) {
     put(b"ext");
     put_number(x.start as u64);
@@ -106,6 +115,7 @@ fn put_header(header: Header, image: Image) {
     put_dims(dim);
     put_type(header.intent.datatype, header.intent.bitpix);
     put_image(image);
+    put_aligned(header.aligned);
     let spans = header.spans;
     put_extensions(header.count, spans);
 }

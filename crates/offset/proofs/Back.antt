@@ -1,4 +1,4 @@
--- An offset that is a multiple of 16 up to the limit comes back from its bits. Assumes nothing.
+-- An offset that is a multiple of 16 up to the limit comes back from its bits, as an aligned one. Assumes nothing.
 use mathlib.Core.Path.{_≡_, sym, ap, _∙_, subst}
 use Prim.Native.Nat.{ℕ, _*_, _/_, _%_, _^_, _≤_, _<_}
 use native.Mathlib.Nat.{lt-of-lt-of-le, mul-assoc, mul-one, div-one, zero-lt-suc}
@@ -11,10 +11,10 @@ use lib.Ieee.{Float, binary32, ofInt}
 use lib.Ieee.Bits.{ofBits-toBits, toBits-lt}
 use lib.Ieee.Exact.{HasValue, round-exact}
 use lib.Ieee.Fits.{ofInt-fits}
-use Rattle.offset.specs.declared.Offset.the-variants.{Whole}
-use Rattle.offset.specs.Offset.{offsetLimit, floatOf, isWhole, wholeOf, offsetOf, offsetBits}
+use Rattle.offset.specs.declared.Offset.the-variants.{Aligned}
+use Rattle.offset.specs.Offset.{offsetLimit, floatOf, isWhole, wholeOf, offsetOf, alignedOf, offsetBits}
 use Rattle.offset.proofs.Fraction.{whole-at, value-at}
-use Rattle.offset.proofs.Answer.{whole-answer}
+use Rattle.offset.proofs.Answer.{whole-answer, aligned-case, aligned-reads}
 
 -- the bits of any whole number are 32
 pub bits-fit : (n : ℕ) → offsetBits n < 4294967296
@@ -39,5 +39,8 @@ module _ (n : ℕ) (aligned : n % 16 ≡ 0) (small : n ≤ offsetLimit) where
   pub back-value : wholeOf (offsetBits n) ≡ n
   back-value = value-at (offsetBits n) n 1 (zero-lt-suc 0) back-float ∙ div-one n
 
-  pub offset-back : offsetOf (offsetBits n) ≡ Whole n
-  offset-back = whole-answer (offsetBits n) n back-whole back-value small
+  pub offset-back : offsetOf (offsetBits n) ≡ Aligned n
+  offset-back = whole-answer (offsetBits n) n back-whole back-value small ∙ aligned-case n aligned
+
+  pub back-aligned : alignedOf (offsetBits n) ≡ true
+  back-aligned = aligned-reads (offsetBits n) n offset-back .fact

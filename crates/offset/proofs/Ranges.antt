@@ -11,15 +11,16 @@ use lib.Ieee.{fin, binary32, lt, odd, ofFields}
 use lib.Ieee.Positive.{num, den}
 use lib.Ieee.Exact.{HasValue}
 use borrow.Author.Tests.{le-leb, lt-leb, eqb-true, eqb-false}
-use Rattle.offset.specs.declared.Offset.the-variants.{Whole, NotWhole, TooLarge}
+use Rattle.refusal.specs.Table.{refusal}
+use Rattle.offset.specs.declared.Offset.the-variants.{Aligned, Unaligned, Refused}
 use Rattle.offset.specs.Offset.{floatOf, wholeFloat, isWhole, wholeOf, offsetOf}
 use Rattle.offset.proofs.Fraction.{rescale, whole-at, part-at, value-at, negative-at, infinite-at}
 use Rattle.offset.proofs.Pattern.{exponent, significand, parts, fields, ones-infinite, pattern-value}
-use Rattle.offset.proofs.Answer.{whole-answer, large-answer, not-whole-answer}
+use Rattle.offset.proofs.Answer.{whole-answer, large-answer, not-whole-answer, aligned-case, unaligned-case}
 
 -- ---- both zeros
 
-pub zero-answer : (b : ℕ) → b % 2147483648 ≡ 0 → Whole 0 ≡ offsetOf b
+pub zero-answer : (b : ℕ) → b % 2147483648 ≡ 0 → Aligned 0 ≡ offsetOf b
 unfolding isWhole wholeOf ofFields odd lt
 zero-answer b h =
     let x : exponent b ≡ 0 = omega arith in
@@ -41,7 +42,7 @@ sig-pos (suc x) t h = omega arith
 parts-pos : (b : ℕ) → (b % 2147483648 ≡ 0 → ⊥) → 0 < parts b
 parts-pos b n = mul-pos (sig-pos (exponent b) (b % 8388608) (λ e. omega (arith, n))) (pow-pos (exponent b - 1))
 
-pub high-answer : (b : ℕ) → (b % 2147483648 ≡ 0 → ⊥) → 2139095040 ≤ b → b < 4294967296 → NotWhole ≡ offsetOf b
+pub high-answer : (b : ℕ) → (b % 2147483648 ≡ 0 → ⊥) → 2139095040 ≤ b → b < 4294967296 → Refused (refusal 8 108) ≡ offsetOf b
 unfolding isWhole
 high-answer b n h w = sym (not-whole-answer b (go (eqb (exponent b) 255) refl))
   where
@@ -58,7 +59,7 @@ sig-lt : (x t : ℕ) → t < 8388608 → significand x t < 2 ^ 24
 sig-lt zero t h = omega arith
 sig-lt (suc x) t h = omega arith
 
-pub low-answer : (b : ℕ) → (b % 2147483648 ≡ 0 → ⊥) → b < 1065353216 → NotWhole ≡ offsetOf b
+pub low-answer : (b : ℕ) → (b % 2147483648 ≡ 0 → ⊥) → b < 1065353216 → Refused (refusal 8 108) ≡ offsetOf b
 low-answer b n h =
     let x : 24 + (exponent b - 1) ≤ 149 = omega arith in
     let small : parts b < 2 ^ 149 = lt-of-lt-of-le (shl-lt 24 (exponent b - 1) (sig-lt (exponent b) (b % 8388608) (omega arith))) (pow-mono x) in
@@ -89,7 +90,7 @@ value-in b k l h w e =
     (pattern-value false b (lt-leb 2147483648 b (omega arith)) (omega arith))
 
 -- from 2 ^ 28 on
-pub huge-answer : (b : ℕ) → 155 ≤ b / 8388608 → b < 2139095040 → TooLarge ≡ offsetOf b
+pub huge-answer : (b : ℕ) → 155 ≤ b / 8388608 → b < 2139095040 → Refused (refusal 9 108) ≡ offsetOf b
 huge-answer b h w =
     let a = (8388608 + b % 8388608) * 2 ^ (b / 8388608 - 150) in
     let v : HasValue (floatOf b) false a 1 = value-in b (b / 8388608 - 150) 0 (omega arith) w (omega arith) in
@@ -110,15 +111,22 @@ module _ (b : ℕ) (h : 1065353216 ≤ b) (w : b / 8388608 < 155) where
       subst (λ (a : ℕ). HasValue (floatOf b) false a 8388608) (sym (shl-exact 24 (b / 8388608 - 127) 64 (omega arith) (omega arith)))
       (value-in b (b / 8388608 - 127) 23 h (omega arith) (omega arith))
 
-  pub part-answer : (scaled b % 8388608 ≡ 0 → ⊥) → NotWhole ≡ offsetOf b
+  pub part-answer : (scaled b % 8388608 ≡ 0 → ⊥) → Refused (refusal 8 108) ≡ offsetOf b
   part-answer n = sym (not-whole-answer b (part-at b (scaled b) 8388608 (zero-lt-suc 8388607) scaled-value n))
 
-  pub exact-answer : scaled b % 8388608 ≡ 0 → scaled b / 8388608 ≤ 134217728 → Whole (scaled b / 8388608) ≡ offsetOf b
-  exact-answer r l =
-      sym (whole-answer b (scaled b / 8388608) (whole-at b (scaled b) 8388608 (zero-lt-suc 8388607) scaled-value r)
-      (value-at b (scaled b) 8388608 (zero-lt-suc 8388607) scaled-value) l)
+  module _ (r : scaled b % 8388608 ≡ 0) where
+    whole : isWhole b ≡ true
+    whole = whole-at b (scaled b) 8388608 (zero-lt-suc 8388607) scaled-value r
 
-  pub above-answer : scaled b % 8388608 ≡ 0 → 134217728 < scaled b / 8388608 → TooLarge ≡ offsetOf b
-  above-answer r l =
-      sym (large-answer b (whole-at b (scaled b) 8388608 (zero-lt-suc 8388607) scaled-value r)
-      (subst (λ (z : ℕ). 134217728 < z) (sym (value-at b (scaled b) 8388608 (zero-lt-suc 8388607) scaled-value)) l))
+    value : wholeOf b ≡ scaled b / 8388608
+    value = value-at b (scaled b) 8388608 (zero-lt-suc 8388607) scaled-value
+
+    pub above-answer : 134217728 < scaled b / 8388608 → Refused (refusal 9 108) ≡ offsetOf b
+    above-answer l = sym (large-answer b whole (subst (λ (z : ℕ). 134217728 < z) (sym value) l))
+
+    module _ (l : scaled b / 8388608 ≤ 134217728) where
+      pub aligned-answer : scaled b / 8388608 % 16 ≡ 0 → Aligned (scaled b / 8388608) ≡ offsetOf b
+      aligned-answer e = sym (whole-answer b (scaled b / 8388608) whole value l ∙ aligned-case (scaled b / 8388608) e)
+
+      pub unaligned-answer : (scaled b / 8388608 % 16 ≡ 0 → ⊥) → Unaligned (scaled b / 8388608) ≡ offsetOf b
+      unaligned-answer e = sym (whole-answer b (scaled b / 8388608) whole value l ∙ unaligned-case (scaled b / 8388608) e)

@@ -1,2 +1,3 @@
--- The definitions that the contracts of `offset` cite.
+-- The definitions that the contracts of `offset` cite, and the one that a law about earlier files does.
 pub mod Offset
+pub mod Before

@@ -16,7 +16,7 @@ use Rattle.listing.specs.declared.Scanned.{Scanned}
 use Rattle.listing.specs.declared.Scanned.the-variants.{Counted, Broken}
 use Rattle.listing.specs.Scan.{scanOf}
 use Rattle.header.specs.Fields.{headerOf}
-use Rattle.rules.specs.Rules.{shapeRows, sized, regionEnd, Measured}
+use Rattle.rules.specs.Rules.{shapeRows, alignedIn, completed, regionEnd, Measured}
 use Rattle.rules.proofs.Sizes.{shape-measured}
 use Rattle.layout.specs.declared.Layout.{Layout}
 use Rattle.layout.specs.declared.Checked.{Checked}
@@ -122,6 +122,10 @@ module _ (s : List ℕ) (wanted : ℕ) (o : Outline) (e : outlineOf wanted s ≡
   pub shown-few : o .count ≤ extensionLimit
   shown-few = omega (arith, shown .counted, shown .file .few)
 
+  -- what it says of the offset is what the offset's reading says
+  pub shown-aligned : o .layout .aligned ≡ alignedIn (shapeIn (o .layout .order) (o .layout .kind) s)
+  shown-aligned = rw (← shown .layout)
+
   -- the fields that rules 5 to 10 judge have passed them, and their sizes can be computed
   pub shown-rows : Clear (shapeRows (shapeIn (o .layout .order) (o .layout .kind) s))
   shown-rows = rw (← shown .layout) (shape-rows s (shown .file .rules))
@@ -137,7 +141,7 @@ module _ (s : List ℕ) (wanted : ℕ) (o : Outline) (e : outlineOf wanted s ≡
   pub shown-accepted : IsAccepted s
   shown-accepted = rw shown-reading
 
-  pub shown-header : sized (headerOf (o .layout .order) (o .layout .kind) (o .count) (spansOf (shown .list)) s) ≡ readingOf s .header
+  pub shown-header : completed (headerOf (o .layout .order) (o .layout .kind) (o .count) (spansOf (shown .list)) s) ≡ readingOf s .header
   shown-header i = sym shown-reading i .header
 
   pub shown-span : getD (spansOf (shown .list)) wanted noSpan ≡ o .span

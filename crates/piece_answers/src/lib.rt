@@ -70,6 +70,7 @@ fn shown_file(header: Header, image: Image) -> FileAnswer
         bitpix: intent.bitpix,
         extensions: header.count as u32,
         step,
+        aligned: answers::is_aligned(header.aligned),
     }
 }
 

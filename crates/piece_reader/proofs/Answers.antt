@@ -14,7 +14,7 @@ use Rattle.refusal.proofs.Rows.{accepted-clear}
 use Rattle.field.specs.declared.Order.{Order}
 use Rattle.field.specs.Numbers.{u32At}
 use Rattle.offset.specs.Offset.{wholeOf, offsetOf, offsetLimit}
-use Rattle.offset.proofs.Answer.{whole-answer}
+use Rattle.offset.proofs.Answer.{whole-answer, whole-in-case}
 use Rattle.extension.specs.declared.Span.{Span}
 use Rattle.extension.specs.declared.Walker.{Walker}
 use Rattle.extension.specs.declared.Step.{Step}
@@ -24,7 +24,7 @@ use Rattle.extension.specs.Listing.{spansOf, listingOf}
 use Rattle.header.specs.declared.Kind.{Kind}
 use Rattle.header.specs.declared.Kind.the-variants.{Single, Pair}
 use Rattle.header.specs.Fields.{headerOf}
-use Rattle.rules.specs.Rules.{offsetOutside, imageOf, sized, regionEnd}
+use Rattle.rules.specs.Rules.{offsetOutside, imageOf, completed, regionEnd}
 use Rattle.rules.proofs.Passed.{neither}
 use Rattle.layout.specs.declared.Layout.{Layout}
 use Rattle.layout.specs.declared.Checked.{Checked}
@@ -67,7 +67,7 @@ module _ (b : List ℕ) (l : Layout) (fits : checkedOf b ≡ Fits l) (room : len
   reads-halt r e = reads-refused b l fits (listingOf (stopped r)) (ap listingOf (sym e)) r refl
 
   accepted-front : (n : ℕ) (spans : List Span) → acceptedWith (frontOf b) l n spans ≡ acceptedWith b l n spans
-  accepted-front n spans = λ i. record { verdict = Accepted; header = sized (header-front b (l .order) (l .kind) n spans i); image = l .image }
+  accepted-front n spans = λ i. record { verdict = Accepted; header = completed (header-front b (l .order) (l .kind) n spans i); image = l .image }
 
   abbrev order : Order
   order = orderOf (frontOf b)
@@ -84,7 +84,7 @@ module _ (b : List ℕ) (l : Layout) (fits : checkedOf b ≡ Fits l) (room : len
   unfolding shapeIn
   region-by Single out =
       let n = ltb-false offsetLimit (wholeOf bits) (neither (ltb (wholeOf bits) firstPlace) (ltb offsetLimit (wholeOf bits)) out .1) in
-      rw (whole-answer bits (wholeOf bits) (rules .fields .whole) refl n)
+      rw (whole-answer bits (wholeOf bits) (rules .fields .whole) refl n, whole-in-case (wholeOf bits))
   region-by Pair out = to-the-end (orderOf b) b totalLimit room
 
   -- so the reader's walk is the one over what is kept

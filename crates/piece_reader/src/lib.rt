@@ -6,7 +6,7 @@ ghost use Prim.Native.Nat.{_≤_};
 ghost use lib.ListN.{length, take};
 ghost use Rattle.extension.specs.Walk.{extensionLimit, firstPlace};
 ghost use Rattle.extension.specs.Listing.{spansOf};
-ghost use Rattle.rules.specs.Rules.{Measured};
+ghost use Rattle.rules.specs.Rules.{alignedIn, Measured};
 ghost use Rattle.layout.specs.File.{shapeIn};
 ghost use Rattle.piece_walk.specs.Marks.{spansBy};
 ghost use Rattle.piece_reader.specs.Answer.{listedBy, answerOf};
@@ -47,6 +47,7 @@ fn spans_in(marks: [Mark; LIMIT], count: usize) -> [Span; LIMIT]
 fn listed(front: &[u8], layout: Layout, taken: usize, walk: Walk) -> Reading
     requires { ⌜ 348 ≤ length (now front) ⌝ }
     requires { ⌜ Measured (shapeIn (layout .order) (layout .kind) (now front)) ⌝ }
+    requires { ⌜ alignedIn (shapeIn (layout .order) (layout .kind) (now front)) ≡ layout .aligned ⌝ }
     ensures { λ r. ⌜ r ≡ listedBy (now (front .entry)) layout taken walk ⌝ }
 {
     if !layout::has_extensions(front) {

@@ -8,9 +8,9 @@ use lib.ListN.{getD, take, length-take, List·getD-eq-default}
 use Rattle.field.specs.Numbers.{u32At}
 use Rattle.field.proofs.Tabulate.{tabulate-get}
 use Rattle.offset.specs.declared.Offset.{Offset}
-use Rattle.offset.specs.declared.Offset.the-variants.{Whole, NotWhole, TooLarge}
+use Rattle.offset.specs.declared.Offset.the-variants.{Aligned, Unaligned, Refused}
 use Rattle.offset.specs.Offset.{wholeOf, offsetOf}
-use Rattle.offset.proofs.Answer.{whole-value}
+use Rattle.offset.proofs.Answer.{aligned-reads, unaligned-reads}
 use Rattle.header.specs.declared.Kind.the-variants.{Single}
 use Rattle.layout.specs.File.{orderOf, kindOf, hasExtensions}
 use Rattle.piece_walk.specs.Whole.{walkOf}
@@ -24,9 +24,9 @@ module _ (b : List ℕ) (single : kindOf b ≡ Single) where
 
   -- the walk ends before the first voxel
   by-offset : (o : Offset) → offsetOf bits ≡ o → endBy Single o ≤ wholeOf bits
-  by-offset (Whole n) e = omega (arith, whole-value bits n e)
-  by-offset NotWhole e = omega arith
-  by-offset TooLarge e = omega arith
+  by-offset (Aligned n) e = omega (arith, aligned-reads bits n e .value)
+  by-offset (Unaligned n) e = omega (arith, unaligned-reads bits n e .value)
+  by-offset (Refused r) e = omega arith
 
   end-before : endIn (orderOf b) b ≤ wholeOf bits
   unfolding endIn

@@ -10,8 +10,7 @@ use Rattle.refusal.specs.Table.{refusal}
 use Rattle.field.specs.declared.Order.{Order}
 use Rattle.field.specs.Numbers.{u32At}
 use Rattle.offset.specs.declared.Offset.{Offset}
-use Rattle.offset.specs.declared.Offset.the-variants.{Whole, NotWhole, TooLarge}
-use Rattle.offset.specs.Offset.{offsetOf}
+use Rattle.offset.specs.Offset.{offsetOf, wholeIn}
 use Rattle.extension.specs.Walk.{firstPlace}
 use Rattle.buffer.specs.Put.{put}
 use Rattle.header.specs.declared.Kind.{Kind}
@@ -51,9 +50,7 @@ frontWith front n piece = put front n (take (frontLength - n) piece)
 -- file, which the total bounds. Where rule 8 or 9 refuses the offset, what the walk does is not asked.
 abbrev pub endBy : Kind → Offset → ℕ
 endBy Pair o = totalLimit
-endBy Single (Whole n) = n
-endBy Single NotWhole = 0
-endBy Single TooLarge = 0
+endBy Single o = wholeIn o
 
 -- with a zero extender nothing is walked over
 unfoldable pub endIn : Order → List ℕ → ℕ

@@ -74,11 +74,7 @@ fn end_by(kind: Kind, offset: Offset) -> usize
 {
     match kind {
         Kind::Pair => TOTAL,
-        Kind::Single => match offset {
-            Offset::Whole(at) => at as usize,
-            Offset::NotWhole => 0,
-            Offset::TooLarge => 0,
-        },
+        Kind::Single => offset::whole_in(offset) as usize,
     }
 }
 

@@ -17,7 +17,7 @@ use Rattle.refusal.specs.declared.Verdict.the-variants.{Accepted}
 use Rattle.refusal.specs.Table.{verdict}
 use Rattle.refusal.proofs.Rows.{Clear, none, one, accepted-clear, clear-accepted, clear-append, clear-split, decided-accepted, refused-never}
 use Rattle.datatype.specs.Datatypes.{isNumber}
-use Rattle.offset.specs.Offset.{wholeOf, offsetLimit}
+use Rattle.offset.specs.Offset.{wholeOf, offsetLimit, alignedOf}
 use Rattle.grid.specs.Axes.{dimAt}
 use Rattle.extension.specs.declared.Span.{Span}
 use Rattle.extension.specs.Walk.{extensionLimit, firstPlace, Walked, listed, stopped, restOf, extensionsIn}
@@ -35,10 +35,10 @@ use Rattle.header.proofs.Distinct.{single-never}
 use Rattle.rules.specs.declared.Shape.{Shape}
 use Rattle.rules.specs.declared.Image.{Image}
 use Rattle.rules.specs.Rules.{oneToSeven, offsetOutside, imageOf, cutShort, regionEnd}
-use Rattle.rules.specs.Rules.{fieldRows, shapeRows, shapeOfRecord, recordRows, sizesOf}
+use Rattle.rules.specs.Rules.{fieldRows, shapeRows, shapeOfRecord, recordRows, sizesOf, alignedIn}
 use Rattle.rules.proofs.Passed.{neither, Fields, clear-fields, fields-clear}
 use Rattle.layout.specs.File.{holdsIn, orderOf, hasMagic, kindOf, shapeIn, shapeOf, cutExtender, hasExtensions}
-use Rattle.layout.specs.File.{headRows, endRows, fileRows, layoutOf, endOf}
+use Rattle.layout.specs.File.{headRows, endRows, fileRows, alignedFile, layoutOf, endOf}
 use Rattle.layout.proofs.Starting.{either, either-kind}
 use Rattle.reader.specs.declared.Reading.{Reading}
 use Rattle.reader.specs.Reading.{extensionsOf, judgement, acceptedWith, readingBy, readingOf, IsAccepted}
@@ -317,6 +317,13 @@ module _ (s : List ℕ) (a : IsAccepted s) where
   -- and the sizes that its dims and datatype give (02-change-requests.md, P4),
   pub accepted-sizes : readingOf s .header .sizes ≡ sizesOf (readingOf s .header .dim) (readingOf s .header .intent .datatype)
   accepted-sizes = rw accepted-reads
+
+  -- and the fact that its offset's reading says (P6),
+  pub accepted-aligned : readingOf s .header .aligned ≡ alignedOf (readingOf s .header .scale .«vox_offset»)
+  accepted-aligned = rw accepted-reads
+
+  pub accepted-fact : readingOf s .header .aligned ≡ alignedFile s
+  accepted-fact = accepted-aligned ∙ ap alignedIn accepted-shape
 
   -- and passes the rules of a record
   pub accepted-record : Clear (recordRows (readingOf s .header))

@@ -1,3 +1,4 @@
 pub mod Answers
 pub mod File
 pub mod Theorems
+pub mod Before

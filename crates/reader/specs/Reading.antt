@@ -14,7 +14,7 @@ use Rattle.extension.specs.Walk.{Walked, listed, stopped, extensionsIn}
 use Rattle.extension.specs.Listing.{spansOf}
 use Rattle.header.specs.Fields.{headerOf, noHeader}
 use Rattle.rules.specs.declared.Image.{Image}
-use Rattle.rules.specs.Rules.{sized, regionEnd}
+use Rattle.rules.specs.Rules.{completed, regionEnd}
 use Rattle.layout.specs.declared.Layout.{Layout}
 use Rattle.layout.specs.File.{hasExtensions, fileRows, layoutOf}
 use Rattle.reader.specs.declared.Reading.{Reading}
@@ -34,12 +34,13 @@ noImage = record { offset = 0; bytes = 0 }
 abbrev pub refusedWith : Refusal → Reading
 refusedWith r = record { verdict = Refused r; header = noHeader; image = noImage }
 
--- the record and the image of a file with this layout and these extensions; the record has its sizes (02-change-requests.md, P4)
+-- the record and the image of a file with this layout and these extensions; the record has its sizes (02-change-requests.md, P4) and the
+-- aligned fact (P6)
 abbrev pub acceptedWith : List ℕ → Layout → ℕ → List Span → Reading
 acceptedWith s l count spans =
     record {
       verdict = Accepted;
-      header = sized (headerOf (l .order) (l .kind) count spans s);
+      header = completed (headerOf (l .order) (l .kind) count spans s);
       image = l .image;
     }
 

@@ -2,7 +2,7 @@
 ghost use mathlib.Core.Path.{_≡_};
 ghost use Rattle.extension.specs.Listing.{listingOf};
 ghost use Rattle.layout.specs.File.{checkedOf};
-ghost use Rattle.rules.specs.Rules.{shapeOfRecord, sized, Measured};
+ghost use Rattle.rules.specs.Rules.{shapeOfRecord, alignedIn, completed, Measured};
 ghost use Rattle.layout.specs.File.{shapeIn};
 ghost use Rattle.reader.specs.Reading.{extensionsOf, refusedWith, acceptedWith, readingOf};
 use extension::LIMIT;
@@ -57,21 +57,24 @@ pub fn refused(r: Refusal) -> Reading
     }
 }
 
-// A record with its sizes, once its dims, datatype and bitpix are judged.
-fn with_sizes(header: Header) -> Header
+// A record with its sizes, once its dims, datatype and bitpix are judged, and with what the reading of its offset said.
+fn complete(header: Header, aligned: bool) -> Header
     requires { ⌜ Measured (shapeOfRecord header) ⌝ }
-    ensures { λ r. ⌜ r ≡ sized header ⌝ }
+    requires { ⌜ alignedIn (shapeOfRecord header) ≡ aligned ⌝ }
+    ensures { λ r. ⌜ r ≡ completed header ⌝ }
 {
     let dim = header.dim;
     let intent = header.intent;
     let mut out = header;
     out.sizes = sizes::sizes_in(dim, intent.bitpix);
+    out.aligned = aligned;
     out
 }
 
 // The reading of an accepted file with this layout and these extensions.
 pub fn accepted(file: &[u8], layout: Layout, count: usize, spans: [Span; LIMIT]) -> Reading
     requires { ⌜ Measured (shapeIn (layout .order) (layout .kind) (now file)) ⌝ }
+    requires { ⌜ alignedIn (shapeIn (layout .order) (layout .kind) (now file)) ≡ layout .aligned ⌝ }
     ensures { λ a. ⌜ a ≡ acceptedWith (now (file .entry)) layout count spans ⌝ }
 {
     let order = layout.order;
@@ -79,7 +82,10 @@ pub fn accepted(file: &[u8], layout: Layout, count: usize, spans: [Span; LIMIT])
     let image = layout.image;
     Reading {
         verdict: Verdict::Accepted,
-        header: with_sizes(header::parse(file, order, kind, count, spans)),
+        header: complete(
+            header::parse(file, order, kind, count, spans),
+            layout.aligned,
+        ),
         image,
     }
 }

@@ -98,7 +98,8 @@ quaternAfter g =
       «qoffset_z» = g .«qoffset_z»;
     }
 
--- the whole record; "All else .. is copied". The sizes are the old ones here: the law `turned-reads` has them set right (`sized`, rules/Rules).
+-- the whole record; "All else .. is copied". The sizes are the old ones here: the law `turned-reads` has them set right (`completed`,
+-- rules/Rules).
 unfoldable pub headerAfter : Turn → Header → Header
 headerAfter t h =
     record {
@@ -108,6 +109,7 @@ headerAfter t h =
       count = h .count;
       spans = h .spans;
       sizes = h .sizes;
+      aligned = h .aligned;
       key = keyAfter (h .key);
       intent = h .intent;
       scale = scaleAfter t (h .scale);

@@ -172,7 +172,7 @@ fn sform_after(header: Header, t: Turn) -> Rows
     rows_after(rows, dim, t)
 }
 
-// The whole record, with the sizes as they were: no byte of the new header depends on them.
+// The whole record, with the sizes and the aligned fact as they were: no byte of the new header depends on them.
 pub fn header_after(header: Header, t: Turn) -> Header
     requires { ⌜ isPermutation t ≡ true ⌝ }
     requires { ⌜ notFinite t header ≡ false ⌝ }
@@ -195,6 +195,7 @@ pub fn header_after(header: Header, t: Turn) -> Header
         count: header.count,
         spans,
         sizes,
+        aligned: header.aligned,
         key: key_after(key),
         intent,
         scale: scale_after(scale, t),

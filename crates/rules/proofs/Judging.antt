@@ -9,13 +9,16 @@ use lib.Dec.{ltb, eqb}
 use lib.IntN.{ℤ, pos, negsuc}
 use mir.Syntax.{w16}
 use mir.Val.{SFits, ofZ}
+use Rattle.refusal.specs.declared.Refusal.{Refusal}
 use Rattle.refusal.specs.Table.{refusal, verdict}
 use Rattle.datatype.specs.declared.Format.{Format}
 use Rattle.datatype.specs.declared.Datatype.the-variants.{Known, Unknown}
 use Rattle.datatype.specs.Datatypes.{datatypeOf, isNumber}
 use Rattle.datatype.proofs.Bits.{number-bits}
 use Rattle.datatype.proofs.Sound.{Sound, known-sound}
-use Rattle.offset.specs.Offset.{isWhole, wholeOf, offsetLimit}
+use Rattle.offset.specs.declared.Offset.the-variants.{Refused}
+use Rattle.offset.specs.Offset.{isWhole, wholeOf, offsetLimit, offsetOf}
+use Rattle.offset.proofs.Answer.{refused-by}
 use Rattle.number.specs.Natural.{naturalOf}
 use Rattle.grid.specs.Axes.{firstBelow, imageBytes, imageLimit, capped}
 use Rattle.grid.proofs.Axes.{first-least}
@@ -23,7 +26,7 @@ use Rattle.header.specs.declared.Kind.{Kind}
 use Rattle.header.specs.declared.Kind.the-variants.{Single, Pair}
 use Rattle.rules.specs.declared.Shape.{Shape}
 use Rattle.rules.specs.declared.Judged.the-variants.{Passed, Failed}
-use Rattle.rules.specs.Rules.{firstBad, axisCount, offsetOutside, bytesOfImage, imageOf, judgedOf}
+use Rattle.rules.specs.Rules.{firstBad, axisCount, offsetOutside, bytesOfImage, imageOf, alignedIn, judgedOf}
 
 -- that rules 5 and 6 have passed, and which format the datatype has
 pub record HasFormat (f : Shape) (t : Format) : Type 0 where
@@ -86,7 +89,7 @@ module _ (f : Shape) (len : ℕ) where
     unfolding judgedOf verdict
     judged-7 h bits = simp (h .axes, h .known, bits)
 
-    pub judged-8 : HasFormat f t → isNumber (f .bitpix) (naturalOf (t .bits)) ≡ true → isWhole (f .«vox_offset») ≡ false
+    judged-8 : HasFormat f t → isNumber (f .bitpix) (naturalOf (t .bits)) ≡ true → isWhole (f .«vox_offset») ≡ false
         → Failed (refusal 8 108) ≡ judgedOf f len
     unfolding judgedOf verdict
     judged-8 h bits whole = simp (h .axes, h .known, bits, whole)
@@ -113,8 +116,18 @@ module _ (f : Shape) (len : ℕ) where
           let e = lt-ltb imageLimit (bytesOfImage f) large in
           simp (h .format .axes, h .format .known, h .bits, h .whole, h .value, inside, e)
 
-      pub judged-passed : offsetOutside (f .kind) at len ≡ false → bytesOfImage f ≤ imageLimit → Passed (imageOf f) ≡ judgedOf f len
+      pub judged-passed : offsetOutside (f .kind) at len ≡ false → bytesOfImage f ≤ imageLimit → Passed (imageOf f) (alignedIn f) ≡ judgedOf f len
       unfolding judgedOf verdict
       judged-passed inside small =
           let e = le-ltb imageLimit (bytesOfImage f) small in
           simp (h .format .axes, h .format .known, h .bits, h .whole, h .value, inside, e)
+
+    -- 8, or 9 by its upper bound, as the offset's reading refuses
+    pub judged-refused : HasFormat f t → isNumber (f .bitpix) (naturalOf (t .bits)) ≡ true → (r : Refusal) → offsetOf (f .«vox_offset») ≡ Refused r
+        → Failed r ≡ judgedOf f len
+    judged-refused h bits r e =
+        let o = wholeOf (f .«vox_offset») in
+        refused-by (f .«vox_offset») r e (λ w q. ap Failed q ∙ judged-8 h bits w)
+        (λ w l q.
+        ap Failed q
+        ∙ judged-9 o (record { format = h; bits = bits; whole = w; value = refl }) (beyond (f .kind) o len l))

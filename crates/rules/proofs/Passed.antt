@@ -25,18 +25,18 @@ use Rattle.header.specs.declared.Kind.the-variants.{Single, Pair}
 use Rattle.rules.specs.declared.Shape.{Shape}
 use Rattle.rules.specs.declared.Image.{Image}
 use Rattle.rules.specs.declared.Judged.the-variants.{Passed, Failed}
-use Rattle.rules.specs.Rules.{firstBad, isKnown, statesBits, offsetOutside, bytesOfImage, imageOf, fieldRows, judgedOf}
+use Rattle.rules.specs.Rules.{firstBad, isKnown, statesBits, offsetOutside, bytesOfImage, imageOf, alignedIn, fieldRows, judgedOf}
 use Rattle.rules.specs.Rules.{shapeOfRecord, recordRows, recordJudged, cutShort, imageCut, holder}
 
 -- fields that pass have not failed
-pub failed-never {ℓ} : {A : Type ℓ} {r : Refusal} {i : Image} → Failed r ≡ Passed i → A
+pub failed-never {ℓ} : {A : Type ℓ} {r : Refusal} {i : Image} {a : Bool} → Failed r ≡ Passed i a → A
 failed-never e = let z : _≡_ {A = ℕ} 0 1 = cc in absurd (omega arith)
 
-passed-by : (v : Verdict) (i j : Image) → decided v (Passed i) Failed ≡ Passed j → (v ≡ Accepted) × (i ≡ j)
-passed-by v i j e = let d = decided-accepted v (λ r. failed-never) e in (d .0, cc (d .1))
+passed-by : (v : Verdict) (i j : Image) (a b : Bool) → decided v (Passed i a) Failed ≡ Passed j b → (v ≡ Accepted) × (i ≡ j) × (a ≡ b)
+passed-by v i j a b e = let d = decided-accepted v (λ r. failed-never) e in (d .0, cc (d .1), cc (d .1))
 
-failed-by : (v : Verdict) (i : Image) (r : Refusal) → decided v (Passed i) Failed ≡ Failed r → v ≡ Refused r
-failed-by v i r e = let d = decided-refused v (λ q. failed-never (sym q)) e in cc (d .1, d .2)
+failed-by : (v : Verdict) (i : Image) (a : Bool) (r : Refusal) → decided v (Passed i a) Failed ≡ Failed r → v ≡ Refused r
+failed-by v i a r e = let d = decided-refused v (λ q. failed-never (sym q)) e in cc (d .1, d .2)
 
 pub neither : (a b : Bool) → (a || b) ≡ false → (a ≡ false) × (b ≡ false)
 neither false b e = (refl, e)
@@ -81,29 +81,31 @@ module _ (f : Shape) (len : ℕ) where
   pub fields-offset : Fields f len → imageOf f .offset ≤ offsetLimit
   fields-offset t = inside-limit (f .kind) (wholeOf (f .«vox_offset»)) len (t .inside)
 
-  pub judged-passed-is : (i : Image) → judgedOf f len ≡ Passed i → (verdict (fieldRows f len) ≡ Accepted) × (imageOf f ≡ i)
+  pub judged-passed-is : (i : Image) (a : Bool) → judgedOf f len ≡ Passed i a
+      → (verdict (fieldRows f len) ≡ Accepted) × (imageOf f ≡ i) × (alignedIn f ≡ a)
   unfolding judgedOf
-  judged-passed-is i e = passed-by (verdict (fieldRows f len)) (imageOf f) i e
+  judged-passed-is i a e = passed-by (verdict (fieldRows f len)) (imageOf f) i (alignedIn f) a e
 
   pub judged-failed-is : (r : Refusal) → judgedOf f len ≡ Failed r → verdict (fieldRows f len) ≡ Refused r
   unfolding judgedOf
-  judged-failed-is r e = failed-by (verdict (fieldRows f len)) (imageOf f) r e
+  judged-failed-is r e = failed-by (verdict (fieldRows f len)) (imageOf f) (alignedIn f) r e
 
-  pub passed-bounds : (i : Image) → judgedOf f len ≡ Passed i → (i .offset ≤ offsetLimit) × (i .bytes ≤ imageLimit)
-  passed-bounds i e =
-      let p = judged-passed-is i e in
+  pub passed-bounds : (i : Image) (a : Bool) → judgedOf f len ≡ Passed i a → (i .offset ≤ offsetLimit) × (i .bytes ≤ imageLimit)
+  passed-bounds i a e =
+      let p = judged-passed-is i a e in
       let t = clear-fields (accepted-clear (fieldRows f len) (p .0)) in
       rw (← p .1) (fields-offset t, t .small)
 
 -- the same of a record
 module _ (h : Header) where
-  pub record-passed-is : (i : Image) → recordJudged h ≡ Passed i → (verdict (recordRows h) ≡ Accepted) × (imageOf (shapeOfRecord h) ≡ i)
+  pub record-passed-is : (i : Image) (a : Bool) → recordJudged h ≡ Passed i a
+      → (verdict (recordRows h) ≡ Accepted) × (imageOf (shapeOfRecord h) ≡ i) × (alignedIn (shapeOfRecord h) ≡ a)
   unfolding recordJudged
-  record-passed-is i e = passed-by (verdict (recordRows h)) (imageOf (shapeOfRecord h)) i e
+  record-passed-is i a e = passed-by (verdict (recordRows h)) (imageOf (shapeOfRecord h)) i (alignedIn (shapeOfRecord h)) a e
 
   pub record-failed-is : (r : Refusal) → recordJudged h ≡ Failed r → verdict (recordRows h) ≡ Refused r
   unfolding recordJudged
-  record-failed-is r e = failed-by (verdict (recordRows h)) (imageOf (shapeOfRecord h)) r e
+  record-failed-is r e = failed-by (verdict (recordRows h)) (imageOf (shapeOfRecord h)) (alignedIn (shapeOfRecord h)) r e
 
 -- the file that holds a whole image, by rules 11 and 16
 pub image-held : (kind : Kind) (i : Image) (file image : List ℕ) → cutShort kind (length file) i ≡ false

@@ -1,8 +1,8 @@
--- The sizes of fields that rules 2 and 5 to 10 pass: they can be computed from bitpix, and are those of the dims and the datatype; and what
--- the record's sizes tell.
+-- The sizes of fields that rules 2 and 5 to 10 pass: they can be computed from bitpix, and are those of the dims and the datatype; and
+-- when the record's sizes and its aligned fact pass the writer's test.
 use Prim.Native.Nat.{ℕ, _/_, _≤_}
 use mathlib.Core.Path.{_≡_, refl, ap, sym, _∙_}
-use mathlib.Core.Bool.{true, false, not, and-eq-true-iff}
+use mathlib.Core.Bool.{Bool, true, false, not, and-eq-true-iff, Bool·beq, false≢true}
 use borrow.Author.Tests.{leb-true, eqb-true, eq-eqb, not-false}
 use lib.Dec.{leb, eqb}
 use lib.IntN.{ℤ}
@@ -73,3 +73,14 @@ sizes-same a b e =
 
 pub sizes-self : (a : Sizes) → sameSizes a a ≡ true
 sizes-self a = rw (eq-eqb (a .total) (a .total) refl, same-self (a .steps))
+
+-- the same of the aligned fact
+pub fact-same : (a b : Bool) → Bool·beq a b ≡ true → a ≡ b
+fact-same true true e = refl
+fact-same true false e = absurd (false≢true e)
+fact-same false true e = absurd (false≢true e)
+fact-same false false e = refl
+
+pub fact-self : (a : Bool) → Bool·beq a a ≡ true
+fact-self true = refl
+fact-self false = refl

@@ -1,9 +1,9 @@
 -- The refusal table, rules 5 to 10: what is judged of a header's fields, whether they were read from a file or are about to
--- be written; the sizes of the image; and rules 11 and 16, which ask whether a file holds it (01-scope.md, "Refusal numbers" and "The
--- header rules"; 02-change-requests.md, P4).
+-- be written; the sizes of the image and whether its offset is aligned; and rules 11 and 16, which ask whether a file holds it
+-- (01-scope.md, "Refusal numbers" and "The header rules"; 02-change-requests.md, P4 and P6).
 use Prim.Native.Nat.{ℕ, _+_, _*_, _/_}
 use mathlib.Core.Path.{_≡_}
-use mathlib.Core.Bool.{Bool, true, false, not, _&&_, _||_}
+use mathlib.Core.Bool.{Bool, true, false, not, _&&_, _||_, Bool·beq}
 use mathlib.Core.List.{List, [], _∷_}
 use lib.Dec.{ltb, eqb}
 use lib.IntN.{ℤ, pos}
@@ -12,13 +12,13 @@ use Rattle.refusal.specs.Table.{Row, row, verdict, decided}
 use Rattle.datatype.specs.declared.Datatype.{Datatype}
 use Rattle.datatype.specs.declared.Datatype.the-variants.{Known, Unknown}
 use Rattle.datatype.specs.Datatypes.{datatypeOf, isNumber}
-use Rattle.offset.specs.Offset.{isWhole, wholeOf, offsetLimit}
+use Rattle.offset.specs.Offset.{isWhole, wholeOf, offsetLimit, alignedOf}
 use Rattle.number.specs.Natural.{naturalOf}
 use Rattle.grid.specs.Axes.{dimAt, firstBelow, imageBytes, imageLimit}
 use Rattle.grid.specs.declared.Sizes.{Sizes}
 use Rattle.grid.specs.Sizes.{sizesBy, sameSizes, Measurable}
 use Rattle.header.specs.declared.Header.{Header}
-use Rattle.header.specs.Fields.{withSizes}
+use Rattle.header.specs.Fields.{withFacts}
 use Rattle.header.specs.declared.Kind.{Kind}
 use Rattle.header.specs.declared.Kind.the-variants.{Single, Pair}
 use Rattle.rules.specs.declared.Shape.{Shape}
@@ -57,24 +57,31 @@ offsetOutside Pair offset len = ltb offsetLimit offset || ltb offsetLimit len
 abbrev pub bytesOfImage : Shape → ℕ
 bytesOfImage f = imageBytes (f .dim) (axisCount (f .dim)) (naturalOf (f .bitpix) / 8)
 
--- rules 5 to 10, in the table's order
-abbrev pub fieldRows : Shape → ℕ → List Row
-fieldRows f len =
+-- rules 5 to 10, in the table's order, by the tests of 8 and 9: those of the voxel offset
+abbrev pub rowsByOffset : Shape → Bool → Bool → List Row
+rowsByOffset f broken outside =
     row 5 (not (eqb (firstBad f) 0)) (40 + 2 * firstBad f)
     ∷ row 6 (not (isKnown (datatypeOf (f .datatype)))) 70
     ∷ row 7 (not (statesBits (datatypeOf (f .datatype)) (f .bitpix))) 72
-    ∷ row 8 (not (isWhole (f .«vox_offset»))) 108
-    ∷ row 9 (offsetOutside (f .kind) (wholeOf (f .«vox_offset»)) len) 108
+    ∷ row 8 broken 108
+    ∷ row 9 outside 108
     ∷ row 10 (ltb imageLimit (bytesOfImage f)) 40
     ∷ []
+
+abbrev pub fieldRows : Shape → ℕ → List Row
+fieldRows f len = rowsByOffset f (not (isWhole (f .«vox_offset»))) (offsetOutside (f .kind) (wholeOf (f .«vox_offset»)) len)
 
 -- where the image is: its offset as a whole number, and its bytes
 abbrev pub imageOf : Shape → Image
 imageOf f = record { offset = wholeOf (f .«vox_offset»); bytes = bytesOfImage f }
 
--- fields that none of the rules refuses, with their image; or the first refusal
+-- whether its offset is aligned, as the offset's reading says
+abbrev pub alignedIn : Shape → Bool
+alignedIn f = alignedOf (f .«vox_offset»)
+
+-- fields that none of the rules refuses, with their image and whether it is aligned; or the first refusal
 unfoldable pub judgedOf : Shape → ℕ → Judged
-judgedOf f len = decided (verdict (fieldRows f len)) (Passed (imageOf f)) Failed
+judgedOf f len = decided (verdict (fieldRows f len)) (Passed (imageOf f) (alignedIn f)) Failed
 
 -- the same of a record, as the writer judges it. 01-scope.md: "It refuses 2 when the record's dim[0] is not in 1..7 .., then 5..10
 -- as a reader in the record's order would (the pair's file length in 9 apart)".
@@ -96,9 +103,9 @@ abbrev pub recordRows : Header → List Row
 recordRows h = shapeRows (shapeOfRecord h)
 
 unfoldable pub recordJudged : Header → Judged
-recordJudged h = decided (verdict (recordRows h)) (Passed (imageOf (shapeOfRecord h))) Failed
+recordJudged h = decided (verdict (recordRows h)) (Passed (imageOf (shapeOfRecord h)) (alignedIn (shapeOfRecord h))) Failed
 
--- ---- The sizes of the image
+-- ---- What a record keeps of its image: the sizes, and whether its offset is aligned
 
 -- the bytes of a voxel of a datatype: none of one that is not in the table
 abbrev pub formatBytes : Datatype → ℕ
@@ -109,13 +116,25 @@ formatBytes Unknown = 0
 unfoldable pub sizesOf : List ℤ → ℤ → Sizes
 sizesOf dim datatype = sizesBy dim (axisCount dim) (formatBytes (datatypeOf datatype))
 
--- a record with the sizes that its own dims and datatype give
-abbrev pub sized : Header → Header
-sized h = withSizes (sizesOf (h .dim) (h .intent .datatype)) h
+-- a record with the sizes that its own dims and datatype give, and the fact that its own offset's reading says (P6)
+abbrev pub completed : Header → Header
+completed h = withFacts (sizesOf (h .dim) (h .intent .datatype)) (alignedOf (h .scale .«vox_offset»)) h
+
+-- a record with this fact alone set right
+abbrev pub realigned : Header → Header
+realigned h = withFacts (h .sizes) (alignedOf (h .scale .«vox_offset»)) h
 
 -- "a stored size is wrong": one of the record's eight is not what they give
 abbrev pub wrongSizes : Header → Bool
 wrongSizes h = not (sameSizes (h .sizes) (sizesOf (h .dim) (h .intent .datatype)))
+
+-- "a record where this fact is wrong" (P6)
+abbrev pub wrongFact : Header → Bool
+wrongFact h = not (Bool·beq (h .aligned) (alignedOf (h .scale .«vox_offset»)))
+
+-- either: what the writer's 26 is given for
+abbrev pub wrongFacts : Header → Bool
+wrongFacts h = wrongSizes h || wrongFact h
 
 -- ---- The image in its file
 

@@ -5,7 +5,8 @@ ghost use mathlib.Core.Bool.{true};
 ghost use Prim.Native.Nat.{_≤_};
 ghost use Rattle.number.specs.Natural.{naturalOf};
 ghost use Rattle.datatype.specs.Datatypes.{datatypeOf, isNumber};
-ghost use Rattle.offset.specs.Offset.{isWhole, wholeOf};
+ghost use Rattle.refusal.specs.declared.Refusal.{Refusal};
+ghost use Rattle.offset.specs.Offset.{offsetOf};
 ghost use Rattle.rules.specs.Rules.{judgedOf, shapeOfRecord, recordJudged, offsetOutside, axisCount, firstBad};
 use datatype::Datatype;
 use datatype::Format;
@@ -29,8 +30,9 @@ pub struct Image {
     pub bytes: u64,
 }
 
+// Where the image is, and whether its offset is aligned (02-change-requests.md, P6), as the offset's reading says; or the refusal.
 pub enum Judged {
-    Passed(Image),
+    Passed(Image, bool),
     Failed(Refusal),
 }
 
@@ -61,13 +63,14 @@ pub fn offset_outside(kind: Kind, offset: u64, len: usize) -> bool
 }
 
 // Rules 9 and 10.
-fn judge_image(shape: Shape, len: usize, format: Format, at: u64) -> Judged
+fn judge_image(shape: Shape, len: usize, format: Format, offset: Offset) -> Judged
     requires { ⌜ (firstBad shape ≡ 0) × (datatypeOf (shape .datatype) ≡ Datatype.Known format)
         × (isNumber (shape .bitpix) (naturalOf (format .bits)) ≡ true)
-        × (isWhole (shape .«vox_offset») ≡ true) × (wholeOf (shape .«vox_offset») ≡ at) ⌝ }
+        × (offsetOf (shape .«vox_offset») ≡ offset) × ((r : Refusal) → offset ≡ Offset.Refused r → ⊥) ⌝ }
     ensures { λ r. ⌜ r ≡ judgedOf shape len ⌝ }
 {
     let kind = shape.kind;
+    let at = offset::whole_in(offset);
     if offset_outside(kind, at, len) {
         return failed(9, 108);
     }
@@ -76,7 +79,7 @@ fn judge_image(shape: Shape, len: usize, format: Format, at: u64) -> Judged
     if grid::LIMIT < bytes {
         return failed(10, 40);
     }
-    Judged::Passed(Image { offset: at, bytes })
+    Judged::Passed(Image { offset: at, bytes }, offset::says_aligned(offset))
 }
 
 // Rules 7 and 8, and then the rest.
@@ -89,9 +92,8 @@ fn judge_format(shape: Shape, len: usize, format: Format) -> Judged
     }
     let offset = offset::decode(shape.vox_offset);
     match offset {
-        Offset::Whole(at) => judge_image(shape, len, format, at),
-        Offset::NotWhole => failed(8, 108),
-        Offset::TooLarge => failed(9, 108),
+        Offset::Refused(r) => Judged::Failed(r),
+        _ => judge_image(shape, len, format, offset),
     }
 }
 

@@ -20,7 +20,7 @@ use Rattle.grid.proofs.Axes.{voxels-positive, voxels-seven}
 use Rattle.header.specs.declared.Header.{Header}
 use Rattle.header.specs.declared.Kind.{Kind}
 use Rattle.header.specs.declared.Kind.the-variants.{Single, Pair}
-use Rattle.header.specs.Fields.{headerOf, withSpans, withSizes}
+use Rattle.header.specs.Fields.{headerOf, withSpans, withFacts}
 use Rattle.encode.specs.Encode.{encode}
 use Rattle.rules.specs.Rules.{axisCount, imageOf, shapeOfRecord, recordRows, imageCut, holder}
 use Rattle.rules.proofs.Passed.{neither, clear-fields, image-held}
@@ -83,7 +83,7 @@ record-sized h (one two fields) =
 -- ---- the extensions and the sizes play no part
 module _ (t : Turn) (h : Header) (count : ℕ) (spans : List Span) where
   abbrev bare : Header
-  bare = withSizes noSizes (withSpans count spans h)
+  bare = withFacts noSizes false (withSpans count spans h)
 
   same-rows : (file image out outImage : ℕ) → turnRows bare t file image out outImage ≡ turnRows h t file image out outImage
   unfolding notFinite
@@ -116,9 +116,9 @@ module _ (s : List ℕ) (o : Outline) (e : outlineOf 0 s ≡ Shown o) where
   abbrev pub parsed : Header
   parsed = headerOf (o .layout .order) (o .layout .kind) 0 (spansOf []) s
 
-  parsed-is : parsed ≡ withSizes noSizes (withSpans 0 (spansOf []) read)
+  parsed-is : parsed ≡ withFacts noSizes false (withSpans 0 (spansOf []) read)
   unfolding headerOf
-  parsed-is = ap (λ (h : Header). withSizes noSizes (withSpans 0 (spansOf []) h)) (shown-header s 0 o e)
+  parsed-is = ap (λ (h : Header). withFacts noSizes false (withSpans 0 (spansOf []) h)) (shown-header s 0 o e)
 
   pub parsed-kind : o .layout .kind ≡ read .kind
   unfolding headerOf
@@ -132,7 +132,7 @@ module _ (s : List ℕ) (o : Outline) (e : outlineOf 0 s ≡ Shown o) where
       ∙ ap imageIn (sym parsed-is)
 
   pub parsed-sized : Sized parsed
-  parsed-sized = rw parsed-is (record-sized (withSizes noSizes (withSpans 0 (spansOf []) read)) (accepted-record s (shown-accepted s 0 o e)))
+  parsed-sized = rw parsed-is (record-sized (withFacts noSizes false (withSpans 0 (spansOf []) read)) (accepted-record s (shown-accepted s 0 o e)))
 
   pub parsed-room : (t : Turn) (image : List ℕ) (out outImage : ℕ) → Allowed parsed t (length s) (length image) out outImage
       → Room parsed s image out outImage

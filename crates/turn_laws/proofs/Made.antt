@@ -16,7 +16,7 @@ use Rattle.header.specs.declared.Kind.{Kind}
 use Rattle.header.specs.declared.Kind.the-variants.{Single, Pair}
 use Rattle.encode.proofs.Back.{Writable}
 use Rattle.rules.specs.declared.Shape.{Shape}
-use Rattle.rules.specs.Rules.{axisCount, imageOf, sized, holder}
+use Rattle.rules.specs.Rules.{axisCount, imageOf, completed, holder}
 use Rattle.rules.proofs.Passed.{image-held}
 use Rattle.layout.specs.File.{kindOf, shapeIn}
 use Rattle.reader.specs.declared.Reading.{Reading}
@@ -101,7 +101,7 @@ module _ {file image : List ℕ} {t : Turn} {newFile newImage : List ℕ} (w : T
 
   -- "the turned file is accepted": its record is the old one after the turn
   pub new-record : Writable header
-      → readingOf newFile ≡ record { verdict = Accepted; header = sized (headerAfter t header); image = readingOf file .image }
+      → readingOf newFile ≡ record { verdict = Accepted; header = completed (headerAfter t header); image = readingOf file .image }
   new-record wr =
       let a = accepted-reads file was-accepted in
       let xs = accepted-list file was-accepted in
@@ -111,7 +111,7 @@ module _ {file image : List ℕ} {t : Turn} {newFile newImage : List ℕ} (w : T
       ap readingOf file-is
       ∙ ap (λ (r : Reading). readingOf (fileAfter t (r .header) file)) a
       ∙ new-reads file xs f t (was-allowed .permutation) old three
-      ∙ sym (ap (λ (r : Reading). record { verdict = Accepted; header = sized (headerAfter t (r .header)); image = r .image }) a)
+      ∙ sym (ap (λ (r : Reading). record { verdict = Accepted; header = completed (headerAfter t (r .header)); image = r .image }) a)
 
   -- ---- the image
 

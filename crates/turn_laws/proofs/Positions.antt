@@ -15,7 +15,7 @@ use Rattle.grid.specs.Grid.{within}
 use Rattle.grid.specs.Axes.{dimAt}
 use Rattle.header.specs.declared.Header.{Header}
 use Rattle.header.specs.declared.Rows.{Rows}
-use Rattle.rules.specs.Rules.{axisCount, sized}
+use Rattle.rules.specs.Rules.{axisCount, completed}
 use Rattle.reader.specs.declared.Reading.{Reading}
 use Rattle.reader.specs.Reading.{readingOf}
 use Rattle.position.specs.declared.Positioned.the-variants.{Refused}
@@ -82,7 +82,7 @@ module _ {file image : List ℕ} {t : Turn} {newFile newImage : List ℕ} (all :
   abbrev pub from : ℕ → ℕ
   from o = getD (cameFrom t (threeAxes dim) index) o 0
 
-  new-header : readingOf newFile .header ≡ sized (headerAfter t header)
+  new-header : readingOf newFile .header ≡ completed (headerAfter t header)
   new-header = ap (λ (r : Reading). r .header) (turned-reads all w)
 
   above : leZ (header .quatern .«sform_code») (pos 0) ≡ false

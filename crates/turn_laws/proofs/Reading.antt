@@ -27,12 +27,12 @@ use Rattle.extension.specs.Listing.{spansOf}
 use Rattle.header.specs.declared.Header.{Header}
 use Rattle.header.specs.declared.Kind.{Kind}
 use Rattle.header.specs.declared.Kind.the-variants.{Single, Pair}
-use Rattle.header.specs.Fields.{magicOf, headerOf, withSizes}
+use Rattle.header.specs.Fields.{magicOf, headerOf, withFacts}
 use Rattle.encode.specs.Encode.{encode}
 use Rattle.encode.proofs.Widths.{length-encode}
-use Rattle.encode.proofs.Back.{Writable, sizes-writable, header-read, read-writable}
+use Rattle.encode.proofs.Back.{Writable, facts-writable, header-read, read-writable}
 use Rattle.rules.specs.declared.Shape.{Shape}
-use Rattle.rules.specs.Rules.{oneToSeven, axisCount, bytesOfImage, imageOf, shapeOfRecord, sized, cutShort, regionEnd}
+use Rattle.rules.specs.Rules.{oneToSeven, axisCount, bytesOfImage, imageOf, shapeOfRecord, completed, cutShort, regionEnd}
 use Rattle.rules.proofs.Passed.{Fields}
 use Rattle.layout.specs.File.{holdsIn, orderOf, hasMagic, kindOf, shapeIn, shapeOf, layoutOf, endOf}
 use Rattle.layout.specs.File.{extenderOf, saysSome, hasExtensions}
@@ -78,7 +78,7 @@ pub bytes-writable : (s : List ℕ) (a : IsAccepted s) → IsBytes s → Writabl
 bytes-writable s a all =
     let r = accepted-file s a .file .rules in
     subst (λ (x : Reading). Writable (x .header)) (sym (accepted-reads s a))
-    (sizes-writable _ (read-writable (orderOf s) s all (kindOf s) _ _ (r .size) (magic-is s (r .magic))))
+    (facts-writable _ _ (read-writable (orderOf s) s all (kindOf s) _ _ (r .size) (magic-is s (r .magic))))
 
 module _ (s : List ℕ) (xs : List Span) (f : AcceptedFile s xs) (t : Turn) (ht : isPermutation t ≡ true) where
   abbrev o : Order
@@ -88,7 +88,7 @@ module _ (s : List ℕ) (xs : List Span) (f : AcceptedFile s xs) (t : Turn) (ht 
   k = kindOf s
 
   abbrev old : Header
-  old = sized (headerOf o k (length xs) (spansOf xs) s)
+  old = completed (headerOf o k (length xs) (spansOf xs) s)
 
   abbrev new : List ℕ
   new = fileAfter t old s
@@ -154,7 +154,7 @@ module _ (s : List ℕ) (xs : List Span) (f : AcceptedFile s xs) (t : Turn) (ht 
   module _ (w : Writable old) where
     -- ---- the header
 
-    new-header : headerOf o k (length xs) (spansOf xs) new ≡ withSizes noSizes (headerAfter t old)
+    new-header : headerOf o k (length xs) (spansOf xs) new ≡ withFacts noSizes false (headerAfter t old)
     unfolding fileAfter withHeader headerAfter headerOf
     new-header = header-read (headerAfter t old) (drop 348 own) (after-writable t old w)
 
@@ -265,12 +265,12 @@ module _ (s : List ℕ) (xs : List Span) (f : AcceptedFile s xs) (t : Turn) (ht 
       new-file = judged-file new xs (file-judged new xs rules-new walked-new)
 
       -- its reading
-      pub new-reads : readingOf new ≡ record { verdict = Accepted; header = sized (headerAfter t old); image = imageOf (shapeOf s) }
+      pub new-reads : readingOf new ≡ record { verdict = Accepted; header = completed (headerAfter t old); image = imageOf (shapeOf s) }
       new-reads =
           file-reads new xs new-file
           ∙ (λ i. record {
             verdict = Accepted;
-            header = sized (headerOf (new-order i) (new-kind i) (length xs) (spansOf xs) new);
+            header = completed (headerOf (new-order i) (new-kind i) (length xs) (spansOf xs) new);
             image = new-image i;
           })
-          ∙ (λ i. record { verdict = Accepted; header = sized (new-header i); image = imageOf (shapeOf s) })
+          ∙ (λ i. record { verdict = Accepted; header = completed (new-header i); image = imageOf (shapeOf s) })

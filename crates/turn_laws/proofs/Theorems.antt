@@ -11,7 +11,7 @@ use Rattle.refusal.specs.declared.Verdict.the-variants.{Accepted}
 use Rattle.refusal.specs.Table.{verdict}
 use Rattle.header.specs.declared.Header.{Header}
 use Rattle.encode.proofs.Back.{Writable}
-use Rattle.rules.specs.Rules.{sized}
+use Rattle.rules.specs.Rules.{completed}
 use Rattle.layout.specs.File.{endOf}
 use Rattle.reader.specs.declared.Reading.{Reading}
 use Rattle.reader.specs.Reading.{readingOf}
@@ -36,7 +36,7 @@ writable {file} all w = bytes-writable file (was-accepted w) all
 -- The turned file is accepted: the kind, the byte order, the extensions and all other fields are the old ones but for those that the turn
 -- changes, and so are the image's offset and bytes; its sizes are those of the new dims.
 pub turned-reads : {file image : List ℕ} {t : Turn} {newFile newImage : List ℕ} → IsBytes file → Turns file image t newFile newImage
-    → readingOf newFile ≡ record { verdict = Accepted; header = sized (headerAfter t (readingOf file .header)); image = readingOf file .image }
+    → readingOf newFile ≡ record { verdict = Accepted; header = completed (headerAfter t (readingOf file .header)); image = readingOf file .image }
 turned-reads all w = new-record w (writable all w)
 
 -- its image bytes are the old ones, each voxel's those of the voxel it came from

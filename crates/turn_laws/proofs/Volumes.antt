@@ -10,9 +10,9 @@ use lib.Seq.{take-at}
 use Rattle.grid.specs.Grid.{voxels}
 use Rattle.grid.proofs.Bounds.{seven-length}
 use Rattle.header.specs.declared.Header.{Header}
-use Rattle.encode.proofs.Back.{Writable, sizes-writable}
+use Rattle.encode.proofs.Back.{Writable, facts-writable}
 use Rattle.rules.specs.declared.Image.{Image}
-use Rattle.rules.specs.Rules.{axisCount, sized, holder}
+use Rattle.rules.specs.Rules.{axisCount, completed, holder}
 use Rattle.reader.specs.declared.Reading.{Reading}
 use Rattle.reader.specs.Reading.{readingOf}
 use Rattle.reader.proofs.File.{accepted-record, record-image}
@@ -81,14 +81,14 @@ module _ {file image : List ℕ} {t u : Turn} {file′ image′ file″ image″
   abbrev old : Header
   old = readingOf file .header
 
-  first : readingOf file′ .header ≡ sized (headerAfter t old)
+  first : readingOf file′ .header ≡ completed (headerAfter t old)
   first = ap (λ (r : Reading). r .header) (new-record w wr)
 
   writable : Writable (readingOf file′ .header)
-  writable = subst Writable (sym first) (sizes-writable _ (after-writable t old wr))
+  writable = subst Writable (sym first) (facts-writable _ _ (after-writable t old wr))
 
-  second : readingOf file″ .header ≡ sized (headerAfter u (sized (headerAfter t old)))
-  second = ap (λ (r : Reading). r .header) (new-record v writable) ∙ ap (λ (h : Header). sized (headerAfter u h)) first
+  second : readingOf file″ .header ≡ completed (headerAfter u (completed (headerAfter t old)))
+  second = ap (λ (r : Reading). r .header) (new-record v writable) ∙ ap (λ (h : Header). completed (headerAfter u h)) first
 
   pub dims-twice : readingOf file″ .header .dim ≡ dimsAfter u (dimsAfter t (old .dim))
   unfolding headerAfter

@@ -12,7 +12,7 @@ use Rattle.header.specs.declared.Header.{Header}
 use Rattle.header.specs.declared.Kind.{Kind}
 use Rattle.header.specs.declared.Kind.the-variants.{Single, Pair}
 use Rattle.rules.specs.declared.Image.{Image}
-use Rattle.rules.specs.Rules.{sized, imageCut, holder}
+use Rattle.rules.specs.Rules.{completed, imageCut, holder}
 use Rattle.reader.specs.declared.Reading.{Reading}
 use Rattle.reader.specs.Reading.{readingOf, IsAccepted}
 use Rattle.reader.proofs.File.{record-image}
@@ -56,7 +56,7 @@ module _ {file image : List ℕ} {t : Turn} {newFile newImage : List ℕ} (all :
   abbrev header : Header
   header = readingOf file .header
 
-  new-header : readingOf newFile .header ≡ sized (headerAfter t header)
+  new-header : readingOf newFile .header ≡ completed (headerAfter t header)
   new-header = ap (λ (r : Reading). r .header) (turned-reads all w)
 
   new-accepted : IsAccepted newFile

@@ -6,8 +6,12 @@ use mathlib.Core.List.{List}
 use native.Mathlib.Omega.{arith}
 use borrow.Author.Tests.{ltb-true, ltb-false, lt-ltb, le-ltb}
 use lib.Dec.{ltb}
+use Rattle.refusal.specs.declared.Refusal.{Refusal}
 use Rattle.refusal.specs.Table.{refusal, verdict}
-use Rattle.offset.specs.Offset.{isWhole, wholeOf, offsetLimit}
+use Rattle.offset.specs.declared.Offset.{Offset}
+use Rattle.offset.specs.declared.Offset.the-variants.{Refused}
+use Rattle.offset.specs.Offset.{isWhole, wholeOf, offsetLimit, offsetOf, wholeIn}
+use Rattle.offset.proofs.Answer.{whole-reads, refused-by}
 use Rattle.grid.specs.Grid.{within}
 use Rattle.grid.specs.Axes.{imageLimit, capped, sevenAxes}
 use Rattle.header.specs.declared.Header.{Header}
@@ -15,7 +19,7 @@ use Rattle.rules.specs.Rules.{axisCount, offsetOutside, imageCut}
 use Rattle.rules.proofs.Judging.{beyond}
 use Rattle.rules.proofs.Passed.{neither}
 use Rattle.voxel.specs.declared.Located.the-variants.{At, Unlocated}
-use Rattle.voxel.specs.Steps.{Volume, imageAt, extentBy, straysBy, strays, noAxes, volumeOf, steppedBy, unplacedBy, steppedIn}
+use Rattle.voxel.specs.Steps.{Volume, volume, imageAt, extentBy, straysBy, strays, noAxes, volumeOf, steppedBy, unplacedBy, steppedIn}
 
 -- ---- 26
 
@@ -97,7 +101,7 @@ module _ (v : Volume) (len : ℕ) (index : List ℕ) where
 -- ---- by a record
 
 module _ (h : Header) (len : ℕ) (index : List ℕ) where
-  pub in-8 : isWhole (h .scale .«vox_offset») ≡ false → unplacedBy (h .dim) 8 ≡ steppedIn h len index
+  in-8 : isWhole (h .scale .«vox_offset») ≡ false → unplacedBy (h .dim) 8 ≡ steppedIn h len index
   unfolding steppedIn verdict
   in-8 part = by (noAxes (h .dim)) refl
     where
@@ -106,7 +110,7 @@ module _ (h : Header) (len : ℕ) (index : List ℕ) where
       by false e = rw (e, part)
 
   module _ (whole : isWhole (h .scale .«vox_offset») ≡ true) where
-    pub in-9 : offsetLimit < wholeOf (h .scale .«vox_offset») → unplacedBy (h .dim) 9 ≡ steppedIn h len index
+    in-9 : offsetLimit < wholeOf (h .scale .«vox_offset») → unplacedBy (h .dim) 9 ≡ steppedIn h len index
     unfolding steppedIn verdict
     in-9 large = by (noAxes (h .dim)) refl
       where
@@ -117,3 +121,16 @@ module _ (h : Header) (len : ℕ) (index : List ℕ) where
     pub in-stepped : steppedBy (volumeOf h) len index ≡ steppedIn h len index
     unfolding steppedIn steppedBy verdict
     in-stepped = rw whole
+
+  -- rule 8 or 9, after 2, as the offset's reading refuses
+  pub in-refused : (r : Refusal) → offsetOf (h .scale .«vox_offset») ≡ Refused r → unplacedBy (h .dim) (r .number) ≡ steppedIn h len index
+  in-refused r e =
+      refused-by (h .scale .«vox_offset») r e (λ part q. ap (λ (x : Refusal). unplacedBy (h .dim) (x .number)) q ∙ in-8 part)
+      (λ whole large q. ap (λ (x : Refusal). unplacedBy (h .dim) (x .number)) q ∙ in-9 whole large)
+
+  -- and else the rest, by the whole number that it read
+  pub in-whole : (o : Offset) → offsetOf (h .scale .«vox_offset») ≡ o → ((r : Refusal) → o ≡ Refused r → ⊥)
+      → steppedBy (volume (h .dim) (wholeIn o) (h .sizes .total) (h .sizes .steps) (h .kind)) len index ≡ steppedIn h len index
+  in-whole o e never =
+      let r = whole-reads (h .scale .«vox_offset») o e never in
+      ap (λ (m : ℕ). steppedBy (volume (h .dim) m (h .sizes .total) (h .sizes .steps) (h .kind)) len index) (sym (r .value)) ∙ in-stepped (r .whole)

@@ -118,9 +118,11 @@ fn locate_record(header: Header, len: usize, index: [u64; 7]) -> Located
     let kind = header.kind;
     let offset = offset::decode(scale.vox_offset);
     match offset {
-        Offset::NotWhole => unplaced(&dim, 8),
-        Offset::TooLarge => unplaced(&dim, 9),
-        Offset::Whole(at) => locate_at(&dim, at, sizes.total, &steps, kind, len, &index),
+        Offset::Refused(r) => unplaced(&dim, r.number),
+        _ => {
+            let at = offset::whole_in(offset);
+            locate_at(&dim, at, sizes.total, &steps, kind, len, &index)
+        }
     }
 }
 

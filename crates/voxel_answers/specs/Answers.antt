@@ -21,7 +21,7 @@ volumeIn f = volume (f .dim) (f .«data_offset») (f .«data_bytes») (f .step) 
 
 -- "file.refusal and file.place come back where file.refusal is not 0"
 abbrev pub ownRefusal : ℕ → ℕ → Reply
-ownRefusal refusal place = record { refusal = refusal; place = place; length = 0 }
+ownRefusal refusal place = record { refusal = refusal; place = place; length = 0; aligned = 0 }
 
 unfoldable pub voxelIn : FileAnswer → ℕ → List ℕ → Reply
 voxelIn f len index = cond (eqb (f .refusal) 0) (voxelReply (steppedBy (volumeIn f) len index)) (ownRefusal (f .refusal) (f .place))

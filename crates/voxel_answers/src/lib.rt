@@ -19,5 +19,6 @@ pub fn own_refusal(refusal: u64, place: u64) -> Reply
         refusal,
         place,
         length: 0,
+        aligned: 0,
     }
 }

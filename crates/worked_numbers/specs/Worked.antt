@@ -1,5 +1,6 @@
 -- 01-scope.md, "Numbers on each side": file A, and each answer as a list of the paper's numbers, so that all rows are one table.
 use Prim.Native.Nat.{ℕ}
+use mathlib.Core.Bool.{Bool, cond}
 use mathlib.Core.List.{List, [], _∷_, _++_}
 use lib.IntN.{pos}
 use lib.ListN.{take, replicate}
@@ -7,6 +8,7 @@ use Rattle.field.specs.Numbers.{tabulate, joined}
 use Rattle.refusal.specs.declared.Refusal.{Refusal}
 use Rattle.refusal.specs.declared.Verdict.{Verdict}
 use Rattle.refusal.specs.Table.{decided}
+use Rattle.offset.specs.Offset.{offsetOf, offsetNumbers}
 use Rattle.reader.specs.Reading.{readingOf}
 use Rattle.timing.specs.declared.Slice.{Slice}
 use Rattle.timing.specs.declared.Slice.the-variants as slice
@@ -55,8 +57,13 @@ abbrev pub ofLocated : Located → List ℕ
 ofLocated (At e) = 0 ∷ e .place ∷ e .length ∷ []
 ofLocated (Unlocated r) = ofRefusal r
 
+-- whether an offset is aligned (02-change-requests.md, P6)
+abbrev pub ofFact : Bool → ℕ
+ofFact aligned = cond aligned 1 0
+
+-- the new length, and whether the new offset is aligned
 abbrev pub ofEdited : Edited → List ℕ
-ofEdited (Done file) = 0 ∷ file .length ∷ []
+ofEdited (Done file) = 0 ∷ file .length ∷ ofFact (file .aligned) ∷ []
 ofEdited (Denied r) = ofRefusal r
 
 -- a voxel of two indexes, of a single file
@@ -66,9 +73,13 @@ at file i j = ofLocated (locatedOf file [] (i ∷ j ∷ 0 ∷ 0 ∷ 0 ∷ 0 ∷ 
 abbrev pub reading : List ℕ → List ℕ
 reading file = ofVerdict (readingOf file .verdict)
 
--- a file's offset, where it is accepted
+-- a file's offset, where it is accepted, and whether it is aligned
 abbrev pub offsetRead : List ℕ → List ℕ
-offsetRead file = decided (readingOf file .verdict) (0 ∷ readingOf file .image .offset ∷ []) ofRefusal
+offsetRead file = decided (readingOf file .verdict) (0 ∷ readingOf file .image .offset ∷ ofFact (readingOf file .header .aligned) ∷ []) ofRefusal
+
+-- offset bits by the offset's own reading, before a kind of file is asked
+abbrev pub bitsRead : ℕ → List ℕ
+bitsRead bits = offsetNumbers (offsetOf bits)
 
 -- "Appending 5 bytes to A", in a buffer of 400 bytes
 abbrev pub buffer : List ℕ

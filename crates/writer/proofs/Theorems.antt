@@ -16,11 +16,10 @@ use Rattle.encode.specs.Encode.{encode}
 use Rattle.encode.proofs.Round.{header-back}
 use Rattle.extension.specs.Listing.{spansOf}
 use Rattle.header.specs.Fields.{magicOf, headerOf}
-use Rattle.rules.specs.Rules.{wrongSizes}
-use Rattle.rules.proofs.Sizes.{sizes-self}
 use Rattle.reader.specs.declared.Reading.{Reading}
-use Rattle.reader.proofs.File.{accepted-file, accepted-list, accepted-reads, accepted-record, accepted-sizes}
+use Rattle.reader.proofs.File.{accepted-file, accepted-list, accepted-reads, accepted-record, accepted-sizes, accepted-aligned}
 use Rattle.writer.specs.Write.{writeAnswer, written}
+use Rattle.writer.proofs.Writing.{right-passes}
 
 -- the record of an accepted file states the file's own bytes
 pub accepted-back : (s : List ℕ) (a : IsAccepted s) → ((i : ℕ) → getD s i 0 < 256) → encode (readingOf s .header) ≡ take 348 s
@@ -36,7 +35,7 @@ module _ (s : List ℕ) (a : IsAccepted s) (l : List ℕ) (room : 348 ≤ length
   pub write-accepts : writeAnswer (readingOf s .header) (length l) ≡ Accepted
   unfolding writeAnswer
   write-accepts =
-      let right : wrongSizes (readingOf s .header) ≡ false = rw (accepted-sizes s a, sizes-self) in
+      let right = right-passes (readingOf s .header) (accepted-sizes s a, accepted-aligned s a) in
       clear-accepted (clear-append (accepted-record s a) (one right (one (le-ltb (length l) 348 room) none)))
 
   pub written-back : ((i : ℕ) → getD s i 0 < 256) → written (readingOf s .header) l ≡ take 348 s ++ drop 348 l

@@ -1,8 +1,8 @@
 // The writer: a record's 348 bytes at the front of a lent buffer, or the refusal (01-scope.md, "The writer takes any
-// record"; 02-change-requests.md, P4).
+// record"; 02-change-requests.md, P4 and P6).
 ghost use mathlib.Core.Path.{_≡_};
 ghost use lib.ListN.{length};
-ghost use Rattle.rules.specs.Rules.{shapeOfRecord, wrongSizes, Measured};
+ghost use Rattle.rules.specs.Rules.{shapeOfRecord, alignedIn, wrongFacts, Measured};
 ghost use Rattle.writer.specs.Write.{writeAnswer, written};
 use header::Header;
 use refusal::Refusal;
@@ -15,15 +15,20 @@ fn refused(number: u64) -> Verdict
     Verdict::Refused(Refusal { number, place: 0 })
 }
 
-// 26: whether a size of a record that rules 2 and 5 to 10 pass is not what its dims and datatype give.
-fn has_wrong_sizes(header: Header) -> bool
+// 26, of a record that rules 2 and 5 to 10 pass: whether a size is not what its dims and datatype give, or its aligned fact not
+// what the reading of its offset said.
+fn has_wrong_facts(header: Header, aligned: bool) -> bool
     requires { ⌜ Measured (shapeOfRecord header) ⌝ }
-    ensures { λ r. ⌜ r ≡ wrongSizes header ⌝ }
+    requires { ⌜ alignedIn (shapeOfRecord header) ≡ aligned ⌝ }
+    ensures { λ r. ⌜ r ≡ wrongFacts header ⌝ }
 {
     let dim = header.dim;
     let intent = header.intent;
     let sizes = header.sizes;
-    !sizes::are_same(sizes, sizes::sizes_in(dim, intent.bitpix))
+    if !sizes::are_same(sizes, sizes::sizes_in(dim, intent.bitpix)) {
+        return true;
+    }
+    header.aligned != aligned
 }
 
 // Writes 348 and the kind's magic and all other fields as the record has them, in the record's own byte order. Only the
@@ -35,8 +40,8 @@ pub fn write(header: Header, buf: &mut [u8]) -> Verdict
     let judged = rules::judge_record(header);
     match judged {
         Judged::Failed(r) => Verdict::Refused(r),
-        Judged::Passed(_) => {
-            if has_wrong_sizes(header) {
+        Judged::Passed(_, aligned) => {
+            if has_wrong_facts(header, aligned) {
                 return refused(26);
             }
             if buf.len() < 348 {

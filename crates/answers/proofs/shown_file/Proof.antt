@@ -1,7 +1,7 @@
 -- `shown_file` meets its contract, field by field: an accepted file is long enough for each, its sizes are small, and it has at most 64
 -- extensions.
 use Prim.Native.Nat.{_≤_}
-use mathlib.Core.Path.{_≡_, _∙_}
+use mathlib.Core.Path.{_≡_, ap, _∙_}
 use native.Mathlib.Omega.{arith}
 use lib.ListN.{length}
 use denote.Ref.{now}
@@ -12,7 +12,8 @@ use Rattle.field.specs.Numbers.{i16At}
 use Rattle.header.specs.Fields.{headerOf}
 use Rattle.rules.proofs.Sizes.{measured-sizes}
 use Rattle.layout.specs.File.{shapeIn}
-use Rattle.outline.proofs.Outlines.{shown-long, shown-few, shown-measured}
+use Rattle.outline.proofs.Outlines.{shown-long, shown-few, shown-aligned, shown-measured}
+use Rattle.answers.specs.Answers.{isAligned}
 use Rattle.answers.proofs.Shown.{shown-file}
 use borrow.Author.Needs.{needs}
 use Rattle.answers.proofs.shown_file.Statement.{statement}
@@ -55,11 +56,15 @@ is-pair-requires c κs = search needs
 read-i16-requires-2 : tie.Need-read-i16-requires-2
 read-i16-requires-2 c κs = omega (arith, long (begin (c .before .before .before .before)))
 
+is-aligned-requires : tie.Need-is-aligned-requires
+is-aligned-requires c κs = search needs
+
 returns : tie.Need-returns
 unfolding headerOf shapeIn
 returns c =
-    let datatype = c .read-i162 in
-    let z = c .before .before .before .before in
+    let d = c .before in
+    let datatype = d .read-i162 in
+    let z = d .before .before .before .before in
     let r = z .before in
     let S = begin r in
     let s = now (S .args .file) in
@@ -74,13 +79,14 @@ returns c =
       place = 0;
       «data_offset» = o .layout .image .offset;
       «data_bytes» = o .layout .image .bytes;
-      «big_endian» = c .before .before .big-endian .ensures i;
-      pair = c .before .is-pair .ensures i;
+      «big_endian» = d .before .before .big-endian .ensures i;
+      pair = d .before .is-pair .ensures i;
       dim = dims i;
       datatype = (toZ-ofZ w16 (datatype .result) (record { sfits = datatype .ok }) ∙ datatype .ensures) i;
       bitpix = bitpix-is r i;
       extensions = o .count;
       step = sizes i .steps;
+      aligned = (c .is-aligned .ensures ∙ ap isAligned (shown-aligned s 0 o (S .pre))) i;
     })
 
 pub shown-file-spec : {M : Type 1} → statement M
@@ -94,4 +100,5 @@ shown-file-spec =
     big-endian-requires
     is-pair-requires
     read-i16-requires-2
+    is-aligned-requires
     returns)

@@ -6,10 +6,13 @@ use lib.ListN.{length, take}
 use mir.Syntax.{w32}
 use mir.ValLaws.{toZ-ofZ}
 use Rattle.edit_plan.specs.declared.Planned.{Planned}
+use Rattle.edit_plan.specs.declared.Plan.{Plan}
 use Rattle.edit_plan.specs.Planned.{plannedOf}
+use Rattle.edit_plan.proofs.Deciding.{planned}
 use Rattle.edit.specs.declared.Edited.the-variants.{Done}
 use Rattle.edit.specs.Outcome.{editAnswer, bufferAfter}
 use Rattle.edit.proofs.Outcomes.{outcome-24, outcome-stop, outcome-go}
+use Rattle.edit.proofs.Theorems.{plan-aligned}
 use borrow.Author.Needs.{needs}
 use Rattle.edit.proofs.apply.Statement.{statement}
 use Rattle.edit.proofs.apply.Tie as tie
@@ -83,7 +86,12 @@ returns-3 c =
     let e = outcome-go (now (a .buf)) (a .len) (a .change) (a .code) (now (a .payload)) (p .before .before .before .if1 .left) (t .0 .0)
     (sym (planned-at p) ∙ t .1) in
     let r = rw (toZ-ofZ w32 (a .code) (s .fits .code)) at (c .before .before .splice .ensures) in
-    rw e ((λ i. Done (record { length = r .0 i })), r .1)
+    let f = take (a .len) (now (a .buf)) in
+    let go = planned f (length (now (a .buf))) (a .change) (a .code) (now (a .payload)) (t .0 .0) (sym (planned-at p) ∙ t .1) in
+    let x =
+    sym (ap (λ (y : Plan). y .aligned) (go .1))
+    ∙ plan-aligned f (length (now (a .buf))) (a .change) (a .code) (now (a .payload)) (s .fits .code) (go .0) in
+    rw e ((λ i. Done (record { length = r .0 i; aligned = x i })), r .1)
 
 pub apply-spec : {M : Type 1} → statement M
 apply-spec =

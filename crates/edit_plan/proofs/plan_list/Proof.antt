@@ -1,5 +1,5 @@
 -- `plan_list` meets its contract: each return is one law of proofs/Deciding.antt.
-use Prim.Native.Nat.{ℕ, max}
+use Prim.Native.Nat.{ℕ, _+_, _-_, max}
 use mathlib.Core.Path.{_≡_, sym, ap, _∙_}
 use mathlib.Core.Bool.{Bool}
 use mathlib.Core.List.{List}
@@ -14,6 +14,7 @@ use Rattle.rules.specs.Rules.{regionEnd}
 use Rattle.outline.specs.declared.Outline.{Outline}
 use Rattle.change.specs.declared.Change.{Change}
 use Rattle.change.specs.Change.{missingIn, offersNegative, entersBytes}
+use Rattle.edit_plan.specs.declared.Planned.the-variants.{Go}
 use Rattle.edit_plan.proofs.Planning.{out-inside}
 use Rattle.edit_plan.proofs.Deciding.{Past, Numbers, past, numbers, on-18, on-19, on-20, on-21, on-22, on-go}
 use borrow.Author.Needs.{needs}
@@ -213,15 +214,31 @@ returns-5 c =
     (rw (c .before .before .before .before .is-too-many .ensures) at (c .before .before .before .if4 .left))
     (rw (c .before .before .greater2 .ensures) at (c .before .if5 .taken))
 
+aligned-after-requires : tie.Need-aligned-after-requires
+aligned-after-requires c κs = search needs
+
 returns-6 : tie.Need-returns-6
 returns-6 c =
-    let n = c .before .before .before .before in
+    let e = c .before in
+    let n = e .before .before .before .before in
     let g = numbered-at n in
     let s = start-at g in
     let out = n .before .slot-for .result in
-    on-go (file-at g) (room-at g) (change-at g) (code-at g) (payload-at g) (outline-at g) (s .pre) (past-at n)
-    (g .greater .result) (out .at) (out .old) (n .new-size .result) (numbers-at n)
-    (rw (c .before .before .before .is-too-many .ensures) at (c .before .before .if4 .left)) (rw (c .before .greater2 .ensures) at (c .if5 .left))
+    let new = n .new-size .result in
+    let end = g .greater .result in
+    (λ i.
+    Go (record {
+      order = outline-at g .layout .order;
+      kind = outline-at g .layout .kind;
+      at = out .at;
+      old = out .old;
+      new = new;
+      end = end - out .old + new;
+      aligned = c .aligned-after .ensures i;
+    }))
+    ∙ on-go (file-at g) (room-at g) (change-at g) (code-at g) (payload-at g) (outline-at g) (s .pre) (past-at n)
+    end (out .at) (out .old) new (numbers-at n)
+    (rw (e .before .before .before .is-too-many .ensures) at (e .before .before .if4 .left)) (rw (e .before .greater2 .ensures) at (e .if5 .left))
 
 pub plan-list-spec : {M : Type 1} → statement M
 plan-list-spec =
@@ -250,4 +267,5 @@ plan-list-spec =
     add-if5
     stop-requires-5
     returns-5
+    aligned-after-requires
     returns-6)

@@ -1,4 +1,5 @@
 -- `parse_front` meets its contract: each group is the one that its bytes state.
+use mathlib.Core.Bool.{false}
 use Rattle.grid.specs.Sizes.{noSizes}
 use Rattle.header.specs.Fields.{headerOf}
 use borrow.Author.Needs.{needs}
@@ -43,6 +44,7 @@ returns c =
       count = a .count;
       spans = a .spans;
       sizes = noSizes;
+      aligned = false;
       key = c1 .read-key .ensures i;
       intent = c2 .read-intent .ensures i;
       scale = c3 .read-scale .ensures i;

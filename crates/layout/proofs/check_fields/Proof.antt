@@ -62,7 +62,7 @@ returns-2 c =
     let b = began s (a .len) (a .order) (a .kind) (S .pre .1) in
     let t = p .judged2 .given in
     let u = c .before .end .given in
-    checks-end s (a .len) (a .order) (a .kind) b (t .0 .0) (sym (judged-is j) ∙ t .1) (u .0 .0) (sym (e .check-end .ensures) ∙ u .1)
+    checks-end s (a .len) (a .order) (a .kind) b (t .0 .0) (t .0 .1 .0) (sym (judged-is j) ∙ t .1) (u .0 .0) (sym (e .check-end .ensures) ∙ u .1)
 
 returns-3 : tie.Need-returns-3
 returns-3 c =
@@ -74,7 +74,7 @@ returns-3 c =
     let s = now (a .file) in
     let b = began s (a .len) (a .order) (a .kind) (S .pre .1) in
     let t = p .judged2 .given in
-    checks-all s (a .len) (a .order) (a .kind) b (t .0 .0) (sym (judged-is j) ∙ t .1) (sym (e .check-end .ensures) ∙ c .enum-told .given .1)
+    checks-all s (a .len) (a .order) (a .kind) b (t .0 .0) (t .0 .1 .0) (sym (judged-is j) ∙ t .1) (sym (e .check-end .ensures) ∙ c .enum-told .given .1)
 
 pub check-fields-spec : {M : Type 1} → statement M
 check-fields-spec =

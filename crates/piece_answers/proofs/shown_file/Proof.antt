@@ -15,9 +15,12 @@ is-pair-requires c κs = search needs
 cast-t11 : tie.Need-cast-t11
 cast-t11 c = search needs
 
+is-aligned-requires : tie.Need-is-aligned-requires
+is-aligned-requires c κs = search needs
+
 returns : tie.Need-returns
 returns c =
-    let b = c .before .before in
+    let b = c .before .before .before in
     let a = b .before .before .before .before .before .before .args in
     let h = a .header in
     let datatype : toZ w16 (ofZ w16 (h .intent .datatype)) ≡ h .intent .datatype = search needs in
@@ -34,7 +37,8 @@ returns c =
       bitpix = bitpix i;
       extensions = h .count;
       step = h .sizes .steps;
+      aligned = c .before .is-aligned .ensures i;
     }
 
 pub shown-file-spec : {M : Type 1} → statement M
-shown-file-spec = tie.close (tie.spec big-endian-requires is-pair-requires cast-t11 returns)
+shown-file-spec = tie.close (tie.spec big-endian-requires is-pair-requires cast-t11 is-aligned-requires returns)

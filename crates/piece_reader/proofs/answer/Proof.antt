@@ -3,7 +3,7 @@ use mathlib.Core.Path.{sym, _∙_}
 use mathlib.Core.Bool.{false≢true}
 use native.Mathlib.Omega.{arith}
 use Rattle.layout.specs.File.{checkedIn}
-use Rattle.layout.proofs.Checking.{checked-measured}
+use Rattle.layout.proofs.Checking.{checked-measured, checked-aligned}
 use Rattle.outline.proofs.Outlines.{checked-shown, checked-hidden}
 use Rattle.piece_reader.specs.Answer.{answerOf}
 use borrow.Author.Needs.{needs}
@@ -33,7 +33,7 @@ listed-requires c κs =
     let k = c .before .before .before .before in
     let s = k .before .before .before .before .before .args .pieces in
     let fits = checked-shown (checkedIn (s .front) (s .taken)) _ (sym (k .before .before .outline-in .ensures) ∙ k .outlined2 .given .1) in
-    (omega (arith, slice-aggregate-listed c), checked-measured (s .front) (s .taken) _ fits)
+    (omega (arith, slice-aggregate-listed c), (checked-measured (s .front) (s .taken) _ fits, checked-aligned (s .front) (s .taken) _ fits))
 
 returns : tie.Need-returns
 unfolding answerOf

@@ -1,8 +1,8 @@
--- `accepted` meets its contract: the record of the file's bytes, with its sizes.
+-- `accepted` meets its contract: the record of the file's bytes, with its sizes and what was read of its offset.
 use mathlib.Core.Path.{ap, _∙_}
 use Rattle.refusal.specs.declared.Verdict.the-variants.{Accepted}
 use Rattle.header.specs.Fields.{headerOf}
-use Rattle.rules.specs.Rules.{sized}
+use Rattle.rules.specs.Rules.{completed}
 use Rattle.layout.specs.File.{shapeIn}
 use borrow.Author.Needs.{needs}
 use Rattle.reader.proofs.accepted.Statement.{statement}
@@ -12,15 +12,15 @@ parse-requires : tie.Need-parse-requires
 parse-requires c κs = search needs
 
 -- the record's fields are the file's
-with-sizes-requires : tie.Need-with-sizes-requires
+complete-requires : tie.Need-complete-requires
 unfolding headerOf shapeIn
-with-sizes-requires c κs = rw (c .parse .ensures) (c .before .before .before .pre)
+complete-requires c κs = rw (c .parse .ensures) (c .before .before .before .pre)
 
 returns : tie.Need-returns
 returns c =
     let a = c .before .before .before .before .args in
-    let header = c .with-sizes .ensures ∙ ap sized (c .before .parse .ensures) in
+    let header = c .complete .ensures ∙ ap completed (c .before .parse .ensures) in
     λ i. record { verdict = Accepted; header = header i; image = a .layout .image }
 
 pub accepted-spec : {M : Type 1} → statement M
-accepted-spec = tie.close (tie.spec parse-requires with-sizes-requires returns)
+accepted-spec = tie.close (tie.spec parse-requires complete-requires returns)

@@ -2,7 +2,7 @@
 use mathlib.Core.Path.{_∙_}
 use denote.Ref.{now}
 use lib.ListN.{length}
-use Rattle.layout.proofs.Checking.{checked-measured}
+use Rattle.layout.proofs.Checking.{checked-measured, checked-aligned}
 use Rattle.reader.proofs.Answers.{reads-refused, reads-accepted}
 use borrow.Author.Needs.{needs}
 use Rattle.reader.proofs.read_list.Statement.{statement}
@@ -23,7 +23,8 @@ enum-told c = search needs
 accepted-requires : tie.Need-accepted-requires
 accepted-requires c κs =
     let S = c .before .before .before .before .before in
-    checked-measured (now (S .args .file)) (length (now (S .args .file))) (S .args .layout) (S .pre)
+    let s = now (S .args .file) in
+    (checked-measured s (length s) (S .args .layout) (S .pre), checked-aligned s (length s) (S .args .layout) (S .pre))
 
 returns : tie.Need-returns
 returns c =

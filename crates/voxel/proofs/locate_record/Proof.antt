@@ -1,10 +1,10 @@
 -- `locate_record` meets its contract: what the offset's decoder answers, by rules 8 and 9, and else the rest.
 use mathlib.Core.Path.{ap, sym, _∙_}
+use mathlib.Core.Logic.{⊎-elim}
 use Prim.Native.Nat.{ℕ}
 use native.Mathlib.Omega.{arith}
-use Rattle.offset.proofs.Answer.{whole-is-whole, whole-value, not-whole-is-not, large-is-whole, large-value}
 use Rattle.voxel.specs.Steps.{volume, steppedBy}
-use Rattle.voxel.proofs.Stepping.{in-8, in-9, in-stepped}
+use Rattle.voxel.proofs.Stepping.{in-refused, in-whole}
 use borrow.Author.Needs.{needs}
 use Rattle.voxel.proofs.locate_record.Statement.{statement}
 use Rattle.voxel.proofs.locate_record.Tie as tie
@@ -12,8 +12,8 @@ use Rattle.voxel.proofs.locate_record.Tie as tie
 decode-requires : tie.Need-decode-requires
 decode-requires c κs = search needs
 
-enum-told : tie.Need-enum-told
-enum-told c = search needs
+enum-known-offset : tie.Need-enum-known-offset
+enum-known-offset c = search needs
 
 slice-aggregate-unplaced : tie.Need-slice-aggregate-unplaced
 slice-aggregate-unplaced c = search needs
@@ -21,17 +21,8 @@ slice-aggregate-unplaced c = search needs
 unplaced-requires : tie.Need-unplaced-requires
 unplaced-requires c κs = search needs
 
-enum-told-2 : tie.Need-enum-told-2
-enum-told-2 c = search needs
-
-slice-aggregate-unplaced-2 : tie.Need-slice-aggregate-unplaced-2
-slice-aggregate-unplaced-2 c = search needs
-
-unplaced-requires-2 : tie.Need-unplaced-requires-2
-unplaced-requires-2 c κs = search needs
-
-enum-known-offset : tie.Need-enum-known-offset
-enum-known-offset c = search needs
+whole-in-requires : tie.Need-whole-in-requires
+whole-in-requires c κs = search needs
 
 slice-aggregate-locate-at : tie.Need-slice-aggregate-locate-at
 slice-aggregate-locate-at c = search needs
@@ -47,48 +38,34 @@ locate-at-requires c κs = (omega (arith, slice-aggregate-locate-at (c .before .
 
 returns : tie.Need-returns
 returns c =
-    let d = c .before .before .before .before in
+    let o = c .before .before .before in
+    let d = o .before .before in
     let a = d .before .before .before .before .before .args in
-    let told = sym (d .decode .ensures) ∙ c .before .before .enum-told .given .1 in
-    c .unplaced .ensures ∙ in-8 (a .header) (a .len) (a .t3) (not-whole-is-not (a .header .scale .«vox_offset») told)
+    c .unplaced .ensures ∙ in-refused (a .header) (a .len) (a .t3) (o .offset .given .0 .0) (sym (d .decode .ensures) ∙ o .offset .given .1)
 
 returns-2 : tie.Need-returns-2
 returns-2 c =
-    let d = c .before .before .before .before in
-    let a = d .before .before .before .before .before .args in
-    let bits = a .header .scale .«vox_offset» in
-    let told = sym (d .decode .ensures) ∙ c .before .before .enum-told2 .given .1 in
-    c .unplaced2 .ensures ∙ in-9 (a .header) (a .len) (a .t3) (large-is-whole bits told) (large-value bits told)
-
-returns-3 : tie.Need-returns-3
-returns-3 c =
-    let o = c .before .before .before .before .before in
-    let d = o .before .before in
+    let w = c .before .before .before .before in
+    let d = w .before .before in
     let a = d .before .before .before .before .before .args in
     let h = a .header in
-    let bits = h .scale .«vox_offset» in
-    let n = o .offset .given .0 .0 in
-    let told = sym (d .decode .ensures) ∙ o .offset .given .1 in
     c .locate-at .ensures
-    ∙ ap (λ (m : ℕ). steppedBy (volume (h .dim) m (h .sizes .total) (h .sizes .steps) (h .kind)) (a .len) (a .t3)) (sym (whole-value bits n told))
-    ∙ in-stepped h (a .len) (a .t3) (whole-is-whole bits n told)
+    ∙ ap (λ (n : ℕ). steppedBy (volume (h .dim) n (h .sizes .total) (h .sizes .steps) (h .kind)) (a .len) (a .t3)) (w .whole-in .ensures)
+    ∙ in-whole h (a .len) (a .t3) (d .decode .result) (sym (d .decode .ensures))
+    (λ r e. ⊎-elim (λ k. omega arith) (λ k. omega arith) (rw e at (w .before .match .keys2)))
 
 pub locate-record-spec : {M : Type 1} → statement M
 locate-record-spec =
     tie.close
     (tie.spec
     decode-requires
-    enum-told
+    enum-known-offset
     slice-aggregate-unplaced
     unplaced-requires
-    enum-told-2
-    slice-aggregate-unplaced-2
-    unplaced-requires-2
-    enum-known-offset
+    whole-in-requires
     slice-aggregate-locate-at
     slice-aggregate-locate-at-2
     slice-aggregate-locate-at-3
     locate-at-requires
     returns
-    returns-2
-    returns-3)
+    returns-2)
