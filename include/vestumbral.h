@@ -76,7 +76,7 @@
 #include <stdint.h>
 
 /* Counts up by one each time a struct of this header grows. A program is compiled against the header of the archive that it links. */
-#define VESTUMBRAL_INTERFACE 2
+#define VESTUMBRAL_INTERFACE 3
 
 #ifdef __cplusplus
 extern "C" {
@@ -87,6 +87,7 @@ typedef struct {
     uint64_t refusal;     /* 0: done; else a number of the table */
     uint64_t place;       /* of a refusal its place; of a voxel its place; else 0 */
     uint64_t length;      /* of a voxel its bytes; of an edit the new file length; else 0, and 0 in every refusal */
+    uint64_t aligned;     /* of an edit 1 where the new file's vox_offset is a multiple of 16, which a single file's always is; else 0 */
 } vestumbral_reply;
 
 /* What reading a file answers. On a refusal every field after place is 0. */
@@ -101,6 +102,7 @@ typedef struct {
     uint32_t extensions;  /* how many, 0..64 */
     uint64_t step[7];     /* how many bytes on the next voxel along axis 1..7 is: bitpix / 8 times the lengths of the axes before it; of
                            * an axis after dim[0] data_bytes */
+    uint32_t aligned;     /* 1 where data_offset is a multiple of 16, as 0 is; else 0. Advice: no file is refused for it */
 } vestumbral_file;
 
 /* One extension. On a refusal start, size and code are 0. */
@@ -196,9 +198,9 @@ vestumbral_position vestumbral_position_of(const uint8_t *file, size_t file_len,
 vestumbral_reply vestumbral_swap(uint8_t *file, size_t file_len, uint8_t *image, size_t image_len);
 
 /*
- * The three edits work in place. The file is the first file_len bytes of the buffer. `length` answers its new length. In a single
- * file vox_offset is set anew and the bytes from it to the file's end move along; in a pair vox_offset stays. When the file
- * shrinks, the freed bytes become zero. Bytes past both lengths keep their content.
+ * The three edits work in place. The file is the first file_len bytes of the buffer. `length` answers its new length, and `aligned`
+ * whether its vox_offset is a multiple of 16. In a single file vox_offset is set anew and the bytes from it to the file's end move
+ * along; in a pair vox_offset stays. When the file shrinks, the freed bytes become zero. Bytes past both lengths keep their content.
  *
  * The extender's first byte becomes 1, or 0 where no extension is left, and its three reserved bytes are kept. A pair's header file
  * of 348 bytes gains 1,0,0,0, whatever the buffer has there.

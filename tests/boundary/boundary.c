@@ -11,10 +11,11 @@
 #include <string.h>
 #include <sys/mman.h>
 
-_Static_assert(sizeof(vestumbral_reply) == 24, "reply");
-_Static_assert(sizeof(vestumbral_file) == 120 && offsetof(vestumbral_file, dim) == 40, "file");
+_Static_assert(sizeof(vestumbral_reply) == 32 && offsetof(vestumbral_reply, aligned) == 24, "reply");
+_Static_assert(sizeof(vestumbral_file) == 128 && offsetof(vestumbral_file, dim) == 40, "file");
 _Static_assert(offsetof(vestumbral_file, datatype) == 56 && offsetof(vestumbral_file, extensions) == 60, "file");
-_Static_assert(offsetof(vestumbral_file, step) == 64 && VESTUMBRAL_INTERFACE == 2, "file");
+_Static_assert(offsetof(vestumbral_file, step) == 64 && offsetof(vestumbral_file, aligned) == 120, "file");
+_Static_assert(VESTUMBRAL_INTERFACE == 3, "interface");
 _Static_assert(sizeof(vestumbral_extension) == 32 && offsetof(vestumbral_extension, code) == 28, "extension");
 _Static_assert(sizeof(vestumbral_slice) == 32 && offsetof(vestumbral_slice, seconds) == 24, "slice");
 _Static_assert(sizeof(vestumbral_position) == 32 && offsetof(vestumbral_position, z) == 24, "position");
@@ -40,12 +41,18 @@ static void check(int fact, const char *text, int line)
 
 static int done(vestumbral_reply reply, uint64_t place, uint64_t length)
 {
-    return reply.refusal == 0 && reply.place == place && reply.length == length;
+    return reply.refusal == 0 && reply.place == place && reply.length == length && reply.aligned == 0;
+}
+
+/* the answer of an edit, with what it says of the new file's vox_offset */
+static int edited(vestumbral_reply reply, uint64_t length, uint64_t aligned)
+{
+    return reply.refusal == 0 && reply.place == 0 && reply.length == length && reply.aligned == aligned;
 }
 
 static int refused(vestumbral_reply reply, uint64_t refusal)
 {
-    return reply.refusal == refusal && reply.place == 0 && reply.length == 0;
+    return reply.refusal == refusal && reply.place == 0 && reply.length == 0 && reply.aligned == 0;
 }
 
 static int turned(vestumbral_turned answer, uint64_t length, uint64_t image_length)
@@ -110,13 +117,19 @@ static vestumbral_pieces fed(vestumbral_pieces pieces, const uint8_t *piece, siz
     return taken.pieces;
 }
 
+/* The struct ends with four bytes that have no meaning. */
+static int same_file(const vestumbral_file *a, const vestumbral_file *b)
+{
+    return memcmp(a, b, offsetof(vestumbral_file, aligned)) == 0 && a->aligned == b->aligned;
+}
+
 /* What a file is, and its extension `number`, are answered alike by its state and by the whole of it. */
 static void as_whole(vestumbral_pieces pieces, const uint8_t *file, size_t length, uint64_t number)
 {
     vestumbral_file whole = vestumbral_read(file, length), in_pieces = vestumbral_pieces_file(pieces);
     vestumbral_extension one = vestumbral_extension_at(file, length, number);
     vestumbral_extension same = vestumbral_pieces_extension_at(pieces, number);
-    CHECK(memcmp(&whole, &in_pieces, sizeof whole) == 0);
+    CHECK(same_file(&whole, &in_pieces));
     CHECK(memcmp(&one, &same, sizeof one) == 0);
 }
 
@@ -134,6 +147,7 @@ static void too_short(uint8_t *bytes, size_t length)
     REFUSED(file, 1, 0);
     CHECK(file.data_offset == 0 && file.data_bytes == 0 && file.big_endian == 0 && file.pair == 0 && file.extensions == 0);
     CHECK(file.dim[0] == 0 && file.dim[7] == 0 && file.datatype == 0 && file.bitpix == 0 && steps_are(file, STEPS(0)));
+    CHECK(file.aligned == 0);
     CHECK(refused(vestumbral_voxel_in(file, UINT64_MAX, 0, 0, 0, 0, 0, 0, 0), 1));
     vestumbral_extension extension = vestumbral_extension_at(bytes, length, 0);
     REFUSED(extension, 1, 0);
@@ -167,7 +181,7 @@ static void reading(enum source source)
     REFUSED(file, 0, 0);
     CHECK(file.data_offset == 352 && file.data_bytes == 12 && file.big_endian == 0 && file.pair == 0 && file.extensions == 0);
     CHECK(file.dim[0] == 2 && file.dim[1] == 3 && file.dim[2] == 2 && file.dim[3] == 0 && file.datatype == 4 && file.bitpix == 16);
-    CHECK(steps_are(file, STEPS(2, 6, 12, 12, 12, 12, 12)));
+    CHECK(steps_are(file, STEPS(2, 6, 12, 12, 12, 12, 12)) && file.aligned == 1);
     REFUSED(vestumbral_extension_at(a, 364, 0), 18, 0);
     CHECK(done(vestumbral_voxel(a, 364, NULL, 0, 2, 1, 0, 0, 0, 0, 0), 362, 2));
     CHECK(refused(vestumbral_voxel(a, 364, NULL, 0, 3, 0, 0, 0, 0, 0, 0), 17));
@@ -187,9 +201,9 @@ static void reading(enum source source)
     memcpy(a, whole, 363);
     file = vestumbral_read(a, 363);
     REFUSED(file, 11, 108);
-    CHECK(steps_are(file, STEPS(0)));
+    CHECK(steps_are(file, STEPS(0)) && file.aligned == 0);
     vestumbral_reply cut = vestumbral_voxel_in(file, 363, 0, 0, 0, 0, 0, 0, 0);
-    CHECK(cut.refusal == 11 && cut.place == 108 && cut.length == 0);
+    CHECK(cut.refusal == 11 && cut.place == 108 && cut.length == 0 && cut.aligned == 0);
     CHECK(refused(vestumbral_append(a, 363, 364, 0, NULL, 0), 24));
     give_back(source, a, 363);
 
@@ -278,7 +292,7 @@ static void steps(enum source source)
             CHECK(refused(vestumbral_voxel_in(read, 0, i[0], i[1], i[2], i[3], i[4], i[5], i[6]), 17));
             i[k]--;
         }
-        CHECK(memcmp(&read, &before, sizeof read) == 0);
+        CHECK(same_file(&read, &before));
         vestumbral_swap(file, length, NULL, 0);
         CHECK(steps_are(vestumbral_read(file, length), expected));
         give_back(source, file, length);
@@ -297,7 +311,7 @@ static vestumbral_reply voxel_in(vestumbral_file file, uint64_t image_len, uint6
 {
     vestumbral_file before = file;
     vestumbral_reply reply = vestumbral_voxel_in(file, image_len, i, j, 0, 0, 0, 0, 0);
-    CHECK(memcmp(&file, &before, sizeof file) == 0);
+    CHECK(same_file(&file, &before));
     return reply;
 }
 
@@ -454,14 +468,14 @@ static void payloads(enum source source)
         buffer = take(source, length);
         file_a(buffer);
         memset(buffer + 364, 0xaa, size);
-        CHECK(done(vestumbral_append(buffer, length, 364, 6, note, payload), 0, length));
+        CHECK(edited(vestumbral_append(buffer, length, 364, 6, note, payload), length, 1));
         CHECK(memcmp(buffer + 348, (const uint8_t[]){1, 0, 0, 0, (uint8_t)size, 0, 0, 0, 6, 0, 0, 0}, 12) == 0);
         CHECK(all(buffer + 360, 'n', payload) && all(buffer + 360 + payload, 0, size - 8 - payload));
         CHECK(memcmp(buffer + 352 + size, before + 352, 12) == 0);
         vestumbral_extension extension = vestumbral_extension_at(buffer, length, 0);
         CHECK(extension.refusal == 0 && extension.start == 352 && extension.size == (int32_t)size && extension.code == 6);
         CHECK(vestumbral_read(buffer, length).data_offset == 352 + size);
-        CHECK(done(vestumbral_remove(buffer, length, length, 0), 0, 364));
+        CHECK(edited(vestumbral_remove(buffer, length, length, 0), 364, 1));
         CHECK(memcmp(buffer, before, 364) == 0 && all(buffer + 364, 0, size));
         give_back(source, buffer, length);
         if (note)
@@ -480,17 +494,17 @@ static void edits(enum source source)
     CHECK(refused(vestumbral_append(buffer, 396, 364, -1, NULL, 0), 19));
     CHECK(refused(vestumbral_remove(buffer, 396, 364, 0), 18));
     CHECK(refused(vestumbral_replace(buffer, 396, 364, 0, -1, NULL, 0), 18));
-    CHECK(done(vestumbral_append(buffer, 396, 364, 4, (const uint8_t *)"hello", 5), 0, 380));
+    CHECK(edited(vestumbral_append(buffer, 396, 364, 4, (const uint8_t *)"hello", 5), 380, 1));
     CHECK(memcmp(buffer + 108, (const uint8_t[]){0, 0, 0xb8, 0x43}, 4) == 0);
     CHECK(done(vestumbral_voxel(buffer, 380, NULL, 0, 2, 1, 0, 0, 0, 0, 0), 378, 2));
     CHECK(memcmp(buffer + 378, before + 362, 2) == 0 && all(buffer + 380, 0xaa, 16));
     CHECK(refused(vestumbral_replace(buffer, 396, 380, 1, 4, NULL, 0), 18));
     CHECK(refused(vestumbral_replace(buffer, 396, 380, 0, 4, (const uint8_t *)"0123456789012345678901234", 25), 22));
-    CHECK(done(vestumbral_replace(buffer, 396, 380, 0, 6, (const uint8_t *)"012345678901234567890123", 24), 0, 396));
+    CHECK(edited(vestumbral_replace(buffer, 396, 380, 0, 6, (const uint8_t *)"012345678901234567890123", 24), 396, 1));
     CHECK(memcmp(buffer + 360, "012345678901234567890123", 24) == 0 && memcmp(buffer + 384, before + 352, 12) == 0);
-    CHECK(done(vestumbral_replace(buffer, 396, 396, 0, 6, (const uint8_t *)"1", 1), 0, 380));
+    CHECK(edited(vestumbral_replace(buffer, 396, 396, 0, 6, (const uint8_t *)"1", 1), 380, 1));
     CHECK(memcmp(buffer + 360, "1\0\0\0\0\0\0", 8) == 0 && memcmp(buffer + 368, before + 352, 12) == 0 && all(buffer + 380, 0, 16));
-    CHECK(done(vestumbral_remove(buffer, 396, 380, 0), 0, 364));
+    CHECK(edited(vestumbral_remove(buffer, 396, 380, 0), 364, 1));
     CHECK(memcmp(buffer, before, 364) == 0 && all(buffer + 364, 0, 32));
     CHECK(refused(vestumbral_remove(buffer, 396, 397, 0), 24));
     give_back(source, buffer, 396);
@@ -503,20 +517,53 @@ static void pair_edits(enum source source)
     uint8_t *buffer = take(source, length);
     memset(buffer, 0x33, length);
     header(buffer, 1, (const int[]){1, 5}, 2, 8, 0x80000000);
-    CHECK(done(vestumbral_append(buffer, length, 348, 2, NULL, 0), 0, 368));
+    CHECK(edited(vestumbral_append(buffer, length, 348, 2, NULL, 0), 368, 1));
     CHECK(buffer[111] == 0x80 && all(buffer + 108, 0, 3) && get32(buffer + 348) == 1 && buffer[368] == 0x33);
     for (uint64_t i = 1; i < 64; i++)
-        CHECK(done(vestumbral_append(buffer, length, 352 + 16 * i, 2, buffer, 0), 0, 368 + 16 * i));
+        CHECK(edited(vestumbral_append(buffer, length, 352 + 16 * i, 2, buffer, 0), 368 + 16 * i, 1));
     CHECK(vestumbral_read(buffer, length).extensions == 64);
     CHECK(vestumbral_extension_at(buffer, length, 63).start == 1360);
     REFUSED(vestumbral_extension_at(buffer, length, 64), 18, 0);
     CHECK(refused(vestumbral_append(buffer, length, length, 2, NULL, 0), 21));
     for (uint64_t i = 64; i > 0; i--)
-        CHECK(done(vestumbral_remove(buffer, length, 352 + 16 * i, i / 2), 0, 336 + 16 * i));
+        CHECK(edited(vestumbral_remove(buffer, length, 352 + 16 * i, i / 2), 336 + 16 * i, 1));
     CHECK(all(buffer + 348, 0, length - 348));
     CHECK(refused(vestumbral_append(buffer, length, 353, 2, NULL, 0), 20));
     REFUSED(vestumbral_read(buffer, 350), 12, 348);
     give_back(source, buffer, length);
+}
+
+/*
+ * vox_offset on either side of a multiple of 16, of a file with one byte of image: read whole and in pieces, swapped, and appended to.
+ * A single file takes a note only where its image begins at 352.
+ */
+static void alignments(enum source source)
+{
+    static const struct { int pair; uint32_t offset, aligned; } rows[] = {
+        {0, 352, 1}, {0, 353, 0}, {0, 356, 0}, {0, 360, 0}, {0, 367, 0}, {0, 368, 1}, {1, 0, 1}, {1, 1, 0}, {1, 8, 0}, {1, 15, 0},
+        {1, 16, 1}, {1, 17, 0}, {1, 24, 0}, {1, 134217720, 0}, {1, 134217728, 1}};
+    for (size_t i = 0; i < sizeof rows / sizeof *rows; i++) {
+        const uint32_t offset = rows[i].offset, aligned = rows[i].aligned;
+        const size_t length = rows[i].pair ? 352 : offset + 1;
+        uint8_t *buffer = take(source, length + 16), image[32] = {0};
+        memset(buffer, 0, length + 16);
+        header(buffer, rows[i].pair, (const int[]){1, 1}, 2, 8, float_bits(offset));
+        for (int turn = 0; turn < 2; turn++) {
+            vestumbral_file file = vestumbral_read(buffer, length);
+            CHECK(file.refusal == 0 && file.data_offset == offset && file.aligned == aligned);
+            as_whole(fed(vestumbral_pieces_start(), buffer, length), buffer, length, 0);
+            if (offset < 1024)
+                CHECK(done(vestumbral_swap(buffer, length, image, sizeof image), 0, 0));
+        }
+        vestumbral_reply reply = vestumbral_append(buffer, length + 16, length, 6, NULL, 0);
+        if (rows[i].pair || offset == 352) {
+            CHECK(edited(reply, length + 16, aligned) && vestumbral_read(buffer, length + 16).aligned == aligned);
+            CHECK(edited(vestumbral_remove(buffer, length + 16, length + 16, 0), length, aligned));
+        } else {
+            CHECK(refused(reply, 20));
+        }
+        give_back(source, buffer, length + 16);
+    }
 }
 
 /* A pair's header file of 348 bytes in a buffer with other bytes behind it: 1,0,0,0 at an exact fit, and one byte short of it. */
@@ -532,9 +579,9 @@ static void bare_pairs(enum source source)
         if (length < 368) {
             CHECK(refused(reply, 22) && memcmp(buffer, before, length) == 0);
         } else {
-            CHECK(done(reply, 0, 368) && memcmp(buffer, before, 348) == 0 && memcmp(buffer + 348, fresh, 20) == 0);
+            CHECK(edited(reply, 368, 1) && memcmp(buffer, before, 348) == 0 && memcmp(buffer + 348, fresh, 20) == 0);
             CHECK(all(buffer + 368, 0xee, length - 368));
-            CHECK(done(vestumbral_remove(buffer, length, 368, 0), 0, 352) && all(buffer + 348, 0, 20));
+            CHECK(edited(vestumbral_remove(buffer, length, 368, 0), 352, 1) && all(buffer + 348, 0, 20));
         }
         give_back(source, buffer, length);
     }
@@ -572,20 +619,20 @@ static void reserved_bytes(enum source source)
 
         uint8_t *buffer = take(source, 384);
         memcpy(buffer, file, 352);
-        CHECK(done(vestumbral_append(buffer, 384, 352, 4, NULL, 0), 0, 368) && extender_is(buffer, 1, reserved));
+        CHECK(edited(vestumbral_append(buffer, 384, 352, 4, NULL, 0), 368, 1) && extender_is(buffer, 1, reserved));
         buffer[348] = first;
-        CHECK(done(vestumbral_append(buffer, 384, 368, 4, NULL, 0), 0, 384) && extender_is(buffer, 1, reserved));
+        CHECK(edited(vestumbral_append(buffer, 384, 368, 4, NULL, 0), 384, 1) && extender_is(buffer, 1, reserved));
         buffer[348] = first;
         CHECK(vestumbral_read(buffer, 384).extensions == 2 && vestumbral_extension_at(buffer, 384, 1).start == 368);
         as_whole(fed(vestumbral_pieces_start(), buffer, 384), buffer, 384, 1);
         CHECK(refused(vestumbral_append(buffer, 384, 384, 4, NULL, 0), 22) && extender_is(buffer, first, reserved));
-        CHECK(done(vestumbral_replace(buffer, 384, 384, 1, 6, image, 5), 0, 384) && extender_is(buffer, 1, reserved));
+        CHECK(edited(vestumbral_replace(buffer, 384, 384, 1, 6, image, 5), 384, 1) && extender_is(buffer, 1, reserved));
         buffer[348] = first;
-        CHECK(done(vestumbral_remove(buffer, 384, 384, 1), 0, 368) && extender_is(buffer, 1, reserved));
+        CHECK(edited(vestumbral_remove(buffer, 384, 384, 1), 368, 1) && extender_is(buffer, 1, reserved));
         buffer[348] = 0;
         CHECK(refused(vestumbral_append(buffer, 384, 368, 4, NULL, 0), 20) && extender_is(buffer, 0, reserved));
         buffer[348] = first;
-        CHECK(done(vestumbral_remove(buffer, 384, 368, 0), 0, 352) && extender_is(buffer, 0, reserved));
+        CHECK(edited(vestumbral_remove(buffer, 384, 368, 0), 352, 1) && extender_is(buffer, 0, reserved));
         CHECK(memcmp(buffer, file, 352) == 0 && all(buffer + 352, 0, 32));
         give_back(source, buffer, 384);
         give_back(source, file, 352);
@@ -913,6 +960,7 @@ int main(void)
         payloads(source);
         edits(source);
         pair_edits(source);
+        alignments(source);
         bare_pairs(source);
         reserved_bytes(source);
         swaps(source);

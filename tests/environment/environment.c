@@ -64,20 +64,21 @@ static void tell(const char *what, const void *bytes, size_t length)
 enum { PAYLOAD = 100000, SMALL = 512, VOXELS = 24, PIECE = 256 };
 static uint8_t buffer[SMALL + 2 * PAYLOAD], payload[PAYLOAD], image[VOXELS], out[SMALL], out_image[VOXELS];
 
-/* Answers by value have no padding, so their bytes can be told. */
-_Static_assert(sizeof(vestumbral_reply) == 24 && sizeof(vestumbral_file) == 120 && sizeof(vestumbral_extension) == 32, "padding");
+/* Answers by value have no padding, so their bytes can be told; of what reading answers, up to its last member. */
+enum { FILE_BYTES = offsetof(vestumbral_file, aligned) + sizeof(uint32_t) };
+_Static_assert(sizeof(vestumbral_reply) == 32 && FILE_BYTES == 124 && sizeof(vestumbral_extension) == 32, "padding");
 _Static_assert(sizeof(vestumbral_taken) == 912 && sizeof(vestumbral_turned) == 32, "padding");
 
 static void look(size_t length)
 {
     vestumbral_file file = vestumbral_read(buffer, length);
-    tell("read", &file, sizeof file);
+    tell("read", &file, FILE_BYTES);
     vestumbral_taken taken = {.pieces = vestumbral_pieces_start()};
     for (size_t at = 0; at < length; at += PIECE)
         taken = vestumbral_pieces_take(taken.pieces, buffer + at, length - at < PIECE ? length - at : PIECE);
     tell("pieces_take", &taken, sizeof taken);
     file = vestumbral_pieces_file(taken.pieces);
-    tell("pieces_file", &file, sizeof file);
+    tell("pieces_file", &file, FILE_BYTES);
     for (uint64_t i = 0; i < 3; i++) {
         vestumbral_extension extension = vestumbral_extension_at(buffer, length, i);
         tell("extension_at", &extension, sizeof extension);

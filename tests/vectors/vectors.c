@@ -3,7 +3,7 @@
  * printed, one line an answer; vectors.out has what they should be. Three stand elsewhere: document 004's slice table and the row
  * that shows the order of rounding in the program slice_table, and the record written back in the program header_copy. Last come
  * files with reserved bytes in the extender (02-change-requests.md, P2), listed, edited, swapped and turned, and the sizes that
- * reading keeps (P4), of files as they are, swapped, appended to and turned.
+ * reading keeps (P4), of files as they are, swapped, appended to and turned, and files whose offset is no multiple of 16 (P6).
  */
 #include "../nifti.h"
 #include "vestumbral.h"
@@ -35,8 +35,8 @@ static void show(const char *what, size_t length)
     printf("%s %s, dims", f.big_endian ? "big" : "little", f.pair ? "pair" : "single");
     for (int i = 1; i <= f.dim[0]; i++)
         printf(" %d", f.dim[i]);
-    printf(", type %d bits %d, data %llu %llu, extensions %u\n", f.datatype, f.bitpix, (unsigned long long)f.data_offset,
-           (unsigned long long)f.data_bytes, f.extensions);
+    printf(", type %d bits %d, data %llu %llu, aligned %s, extensions %u\n", f.datatype, f.bitpix,
+           (unsigned long long)f.data_offset, (unsigned long long)f.data_bytes, f.aligned ? "yes" : "no", f.extensions);
 }
 
 /* Voxel places are asked of a pair, whose image file has to be as long as it says but whose bytes are not read. */
@@ -115,7 +115,8 @@ static void slice_axis(void)
 
 static void offsets(void)
 {
-    static const uint32_t bits[] = {0x43B00000, 0x43B04000, 0x43AF8000, 0x4B800000, 0x4D000000, 0x4D000001, 0x80000000, 0x7F7FFFFF};
+    static const uint32_t bits[] = {0x43B00000, 0x43B04000, 0x43AF8000, 0x4B800000, 0x4D000000, 0x4D000001, 0x80000000, 0x7F7FFFFF,
+                                    0x41000000, 0x41800000}; /* the last two are 8 and 16 */
     for (size_t i = 0; i < sizeof bits / sizeof *bits; i++)
         for (int kind = SINGLE; kind <= PAIR; kind++) {
             char what[32];
@@ -160,8 +161,8 @@ static void append(void)
 {
     file_a();
     vestumbral_reply r = vestumbral_append(file, sizeof file, 364, 6, (const uint8_t *)"hello", 5);
-    printf("append of 5 bytes to A: refusal %d, length %d, size %u, vox_offset %08X\n", (int)r.refusal, (int)r.length, get32(file + 352),
-           get32(file + 108));
+    printf("append of 5 bytes to A: refusal %d, length %d, aligned %d, size %u, vox_offset %08X\n", (int)r.refusal, (int)r.length,
+           (int)r.aligned, get32(file + 352), get32(file + 108));
     show("A then", r.length);
     vestumbral_reply v = vestumbral_voxel(file, r.length, NULL, 0, 2, 1, 0, 0, 0, 0, 0);
     printf("A then, voxel (2,1): refusal %d, place %d, length %d\n", (int)v.refusal, (int)v.place, (int)v.length);
@@ -201,8 +202,8 @@ static void position(void)
 static void edited(const char *what, vestumbral_reply r, size_t old)
 {
     size_t end = (r.length > old ? r.length : old) + 8;
-    printf("  %s: refusal %d at %d, length %d, vox_offset %08X,", what, (int)r.refusal, (int)r.place, (int)r.length,
-           get32(file + 108));
+    printf("  %s: refusal %d at %d, length %d, aligned %d, vox_offset %08X,", what, (int)r.refusal, (int)r.place, (int)r.length,
+           (int)r.aligned, get32(file + 108));
     for (size_t i = 348; i < end; i++)
         printf(i % 4 ? "%02X" : " %02X", file[i]);
     printf("\n");
@@ -272,6 +273,20 @@ static void reserved_bytes(void)
     edited("append", vestumbral_append(file, sizeof file, 348, 6, (const uint8_t *)"hello", 5), 348);
     for (size_t length = 349; length < 352; length++)
         show("349 to 351 bytes", length);
+}
+
+/* A pair at 8 and a single file at 360, as they are, swapped, and appended to: the second has private bytes before its image. */
+static void unaligned(void)
+{
+    static uint8_t image[9];
+    for (int kind = SINGLE; kind <= PAIR; kind++) {
+        size_t length = kind == PAIR ? 352 : 361;
+        start(kind, DIMS(1, 1), 2, 8, kind == PAIR ? 8 : 360);
+        show("unaligned", length);
+        vestumbral_swap(file, length, image, sizeof image);
+        show("unaligned, swapped", length);
+        edited("append", vestumbral_append(file, sizeof file, length, 6, (const uint8_t *)"hello", 5), length);
+    }
 }
 
 static void print_reply(const char *call, vestumbral_reply r)
@@ -361,6 +376,7 @@ int main(void)
     swap();
     position();
     reserved_bytes();
+    unaligned();
     sizes();
     return 0;
 }
