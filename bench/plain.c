@@ -241,7 +241,7 @@ static vestumbral_reply splice(uint8_t *buffer, uint64_t room, uint64_t length, 
         memcpy(&bits, &offset, sizeof bits);
         put32(buffer + 108, o->big, bits);
     }
-    return (vestumbral_reply){.length = fresh};
+    return (vestumbral_reply){.length = fresh, .aligned = (o->pair ? o->offset : end) % 16 == 0};
 }
 
 static uint64_t size_for(size_t payload_len)

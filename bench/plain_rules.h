@@ -176,6 +176,7 @@ static inline vestumbral_file shown(bool accepted, const struct outline *o)
     answer.datatype = o->datatype;
     answer.bitpix = o->bitpix;
     answer.extensions = o->extensions;
+    answer.aligned = o->offset % 16 == 0;
     uint64_t step = o->bitpix / 8;
     for (int i = 0; i < 7; i++) {
         answer.step[i] = step;
