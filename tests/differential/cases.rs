@@ -272,7 +272,10 @@ fn valid_file(random: &mut Random) -> Vec<u8> {
     let region = region(random, order);
     if pair {
         let small = (random.below(600) as f32).to_bits();
-        let offset = random.pick(&[0, 0, 0x8000_0000, OFFSET_352, 0x4180_0000, 0x4d00_0000, small, small]);
+        // every second multiple of 8 is none of 16, and so is the last binary32 before 2^27
+        let eights = (8.0 * random.below(75) as f32).to_bits();
+        let far = random.pick(&[0x4cff_ffff, 0x4d00_0000]);
+        let offset = random.pick(&[0, 0, 0x8000_0000, OFFSET_352, 0x4180_0000, far, small, small, eights]);
         let length = if random.once_in(4) { random.pick(&[0, 0, 0, 0, 4, 4, 1, 2, 3]) } else { region.len() };
         return header.offset(offset).file(&[&region[..length]]);
     }

@@ -9,6 +9,7 @@ pub struct Reply {
     pub refusal: u64,
     pub place: u64,
     pub length: u64,
+    pub aligned: u64,
 }
 
 #[repr(C)]
@@ -25,6 +26,7 @@ pub struct FileAnswer {
     pub bitpix: i16,
     pub extensions: u32,
     pub step: [u64; 7],
+    pub aligned: u32,
 }
 
 #[repr(C)]

@@ -1,8 +1,8 @@
 //! Compares the library, called through its C interface, with the rules of 01-scope.md and 02-change-requests.md written a second
 //! time in rules.rs, turn.rs and record.rs: the whole answer, the whole of every lent buffer, and the bytes beside it. A file that
-//! is read is fed in pieces too, a voxel is located by the record of its file too, what a call that writes leaves is read again, a
-//! turn that is not refused is held to the laws of turns, and a file whose extender is one of the base's is held to the base's
-//! rule.
+//! is read is fed in pieces too, a voxel is located by the record of its file too, what a call that writes leaves is read again,
+//! what an edit's reply says of the new offset is held to that reading, a turn that is not refused is held to the laws of turns,
+//! and a file whose extender is one of the base's is held to the base's rule.
 //!
 //!     differential [--cases N] [--seed S] [--only CASE] [--self-check]
 //!
@@ -24,6 +24,7 @@ mod self_check;
 mod turn;
 mod turn_cases;
 mod turn_laws;
+mod wrong_alignment;
 mod wrong_extenders;
 mod wrong_steps;
 mod wrong_turns;
@@ -47,11 +48,18 @@ struct Outcome {
     rooms: [Vec<u8>; 2],
 }
 
+/// The reply of a voxel, of a swap, and of any refusal: what an edit says of its new file is in none of them.
 fn reply(done: Result<(u64, u64), Refusal>) -> Answer {
     Answer::Reply(match done {
-        Ok((place, length)) => Reply { refusal: 0, place, length },
-        Err(no) => Reply { refusal: no.number, place: no.place, length: 0 },
+        Ok((place, length)) => Reply { place, length, ..Reply::default() },
+        Err(no) => Reply { refusal: no.number, place: no.place, ..Reply::default() },
     })
+}
+
+/// The reply of an edit that is done, which left a file of this length. Whether its offset is aligned, reading it again says.
+fn edit_reply(extender: &Extender, whole: &[u8], length: u64) -> Answer {
+    let aligned = rules::read_by(extender, &whole[..length as usize]).is_ok_and(|known| known.aligned);
+    Answer::Reply(Reply { length, aligned: aligned as u64, ..Reply::default() })
 }
 
 fn file_answer(read: &Result<Known, Refusal>) -> FileAnswer {
@@ -66,6 +74,7 @@ fn file_answer(read: &Result<Known, Refusal>) -> FileAnswer {
             bitpix: known.bitpix,
             extensions: known.spans.len() as u32,
             step: known.steps,
+            aligned: known.aligned as u32,
             ..FileAnswer::default()
         },
         Err(no) => FileAnswer { refusal: no.number, place: no.place, ..FileAnswer::default() },
@@ -120,7 +129,10 @@ fn by_rules(extender: &Extender, case: &Case, zeros: &[u8]) -> Outcome {
     };
     let read = || rules::read_by(extender, main);
     let edited = |file_len, edit| match rules::edit_by(extender, main, file_len, &edit) {
-        Ok((whole, length)) => Outcome { main: whole, ..kept(reply(Ok((0, length)))) },
+        Ok((whole, length)) => {
+            let answer = edit_reply(extender, &whole, length);
+            Outcome { main: whole, ..kept(answer) }
+        }
         Err(no) => kept(reply(Err(no))),
     };
     match case.call {

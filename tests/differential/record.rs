@@ -1,6 +1,7 @@
 //! "Keep the sizes in the record" (02-change-requests.md, P4) a second time, written from the papers and include/vestumbral.h alone,
-//! as rules.rs is: a voxel by the record that reading answers, whatever that record holds. The numbers are those of mathematics: 128
-//! bits hold a product of two, and a sum that they do not hold is past every limit.
+//! as rules.rs is: a voxel by the record that reading answers, whatever that record holds. Whether it says that its offset is
+//! aligned (P6) plays no part. The numbers are those of mathematics: 128 bits hold a product of two, and a sum that they do not
+//! hold is past every limit.
 
 use crate::library::FileAnswer;
 use crate::rules::{Refusal, IMAGE_LIMIT, REGION, REGION_LIMIT};

@@ -1,10 +1,11 @@
 //! Files whose steps are read, and records for voxel_in (02-change-requests.md, P4): as reading answers them, and with members that
-//! reading never leaves so. First come those that hang on no seed.
+//! reading never leaves so. Files whose offset is a multiple of 16, and files whose offset is not (P6). First come those that hang
+//! on no seed.
 
 use crate::cases::{self, Call, Case, Feeding, Other, Piece, Random};
 use crate::extender_cases::digits;
 use crate::file_answer;
-use crate::files::{extension, Header, EXTENSIONS};
+use crate::files::{extension, Header, EXTENSIONS, NO_EXTENSIONS};
 use crate::library::FileAnswer;
 use crate::memory::Where;
 use crate::record::Asked;
@@ -44,6 +45,7 @@ fn right(pair: bool, axes: usize, datatype: usize) -> Asked {
         bitpix,
         extensions: 1,
         step: rules::steps(&dim, bitpix, data_bytes),
+        aligned: !pair as u32,
         ..FileAnswer::default()
     };
     let mut asked = Asked { record, image_len: 0, index: [0; 7] };
@@ -65,7 +67,7 @@ fn fitted(asked: Asked) -> Asked {
     Asked { image_len: narrow(asked.image_end()), ..asked }
 }
 
-pub const FIXED: u64 = READ + LONG + RECORDS;
+pub const FIXED: u64 = READ + LONG + RECORDS + ALIGNMENTS;
 
 /// Files of 1 to 7 axes of every datatype, in both orders and kinds, and pairs with an image at the limits: read, whole and in two
 /// pieces, or asked for a voxel.
@@ -93,8 +95,16 @@ const LONGEST: u64 = 4 * 3 * 3 * 2;
 /// Products and sums that come back to a place inside the image where 64 bits are all that is kept.
 const WRAPPED: u64 = 7 * 7 * 3;
 
+/// vox_offset of a pair and of a single file, multiples of 16 and neighbours of them. 134217720 is the binary32 before 2^27.
+const PAIR_OFFSETS: [f32; 9] = [0.0, -0.0, 1.0, 7.0, 8.0, 16.0, 24.0, 134_217_720.0, 134_217_728.0];
+const SINGLE_OFFSETS: [f32; 6] = [352.0, 353.0, 356.0, 360.0, 368.0, 376.0];
+
+/// Each of these offsets, in both orders, in every call whose answer says whether it is aligned or leaves that out.
+pub const ALIGNMENTS: u64 = (PAIR_OFFSETS.len() + SINGLE_OFFSETS.len()) as u64 * 2 * 8;
+
 pub fn fixed(number: u64) -> Case {
-    let groups: [(u64, fn(u64) -> Case); 3] = [(READ, file_read), (LONG, long_read), (RECORDS, |number| case(numbered(number)))];
+    let groups: [(u64, fn(u64) -> Case); 4] =
+        [(READ, file_read), (LONG, long_read), (RECORDS, |number| case(numbered(number))), (ALIGNMENTS, alignment)];
     cases::grouped(number, &groups)
 }
 
@@ -112,7 +122,12 @@ fn read_or_located(header: Header, pair: bool, image: Other, last: [u64; 7], loc
     if located {
         return Case::at(Call::Voxel { index: last }, file, if pair { image } else { Other::none() });
     }
-    let pieces = [300, file.len() - 300].map(|length| Piece { length, at: Where::Back, asked: true }).to_vec();
+    read_cut(file, 300)
+}
+
+/// Read whole, and in two pieces cut here.
+fn read_cut(file: Vec<u8>, cut: usize) -> Case {
+    let pieces = [cut, file.len() - cut].map(|length| Piece { length, at: Where::Back, asked: true }).to_vec();
     Case::fed(file, Feeding::Pieces { pieces, words: Vec::new() })
 }
 
@@ -132,6 +147,40 @@ fn long_read(number: u64) -> Case {
     let header = Header::new(Order::Big, true).dims(lengths).datatype(DATATYPES[datatype].0);
     let last = from_fn(|i| lengths.get(i).map_or(0, |&d| d as u64 - 1));
     read_or_located(header, true, Other::Zeros(IMAGE_LIMIT as usize + 7), last, located == 1)
+}
+
+/// A pair's header file with a note; or a single file without one, whose region is private bytes up to the image.
+fn file_at(order: Order, number: usize) -> Vec<u8> {
+    let header = |pair, at: f32| Header::new(order, pair).dims(&[3, 2]).datatype(4).offset(at.to_bits());
+    if let Some(&at) = PAIR_OFFSETS.get(number) {
+        return header(true, at).file(&[&EXTENSIONS, &extension(order, 16, 4, b"one note")]);
+    }
+    let at = SINGLE_OFFSETS[number - PAIR_OFFSETS.len()];
+    header(false, at).file(&[&NO_EXTENSIONS, &vec![0x2e; at as usize - 352], &[0x77; 12]])
+}
+
+/// The pieces are cut inside vox_offset. One byte less is refused by 11 or 13, after the offset. The image file is long enough for
+/// the small offsets. The record is the file's but for a wrong `aligned`, on which a voxel does not hang.
+fn alignment(number: u64) -> Case {
+    let [call, big, offset] = digits(number, [8, 2, (PAIR_OFFSETS.len() + SINGLE_OFFSETS.len()) as u64]);
+    let file = file_at(if big == 1 { Order::Big } else { Order::Little }, offset);
+    let file_len = file.len() as u64;
+    let index = [2, 1, 0, 0, 0, 0, 0];
+    let bytes = |byte, length| Other::Own(vec![byte; length]);
+    let edit = |call, payload| Case::at(call, [&file[..], &[0xee; 40]].concat(), payload);
+    match call {
+        0 => read_cut(file, 110),
+        1 => read_cut(file[..file.len() - 1].to_vec(), 110),
+        2 => edit(Call::Append { file_len, code: 6 }, bytes(0x2e, 9)),
+        3 => edit(Call::Replace { file_len, number: 0, code: 6 }, bytes(0x2e, 9)),
+        4 => edit(Call::Remove { file_len, number: 0 }, Other::none()),
+        5 => Case::at(Call::Swap, file, bytes(0x77, 36)),
+        6 => Case::at(Call::Voxel { index }, file, bytes(0x77, 36)),
+        _ => {
+            let record = file_answer(&rules::read(&file));
+            case(fitted(Asked { record: FileAnswer { aligned: 1 - record.aligned, ..record }, image_len: 0, index }))
+        }
+    }
 }
 
 fn numbered(number: u64) -> Asked {
@@ -334,6 +383,7 @@ fn damage(random: &mut Random, record: &mut FileAnswer) {
             record.datatype = random.next() as i16;
             record.bitpix = random.next() as i16;
             record.extensions = random.next() as u32;
+            record.aligned = random.pick(&[0, 1, 2, any as u32]);
         }
     }
 }
@@ -382,16 +432,20 @@ fn move_total(random: &mut Random, asked: &mut Asked) {
     };
 }
 
+/// A record of any numbers, every second one without a refusal of its own.
+fn any_record(random: &mut Random) -> FileAnswer {
+    let [refusal, place, data_offset, data_bytes] = [0; 4].map(|_| random.next() >> random.below(64));
+    let [big_endian, pair, extensions, aligned] = [0; 4].map(|_| random.next() as u32);
+    let dim = from_fn(|i| if i == 0 { random.below(9) as i16 } else { random.next() as i16 });
+    let (datatype, bitpix, step) = (random.next() as i16, random.next() as i16, from_fn(|_| random.next() >> random.below(64)));
+    let refusal = if random.once_in(2) { 0 } else { refusal };
+    FileAnswer { refusal, place, data_offset, data_bytes, big_endian, pair, dim, datatype, bitpix, extensions, step, aligned }
+}
+
 pub fn any(random: &mut Random) -> Asked {
     let mut asked = Asked { record: read(random), image_len: 0, index: [0; 7] };
     if random.once_in(30) {
-        let [refusal, place, data_offset, data_bytes] = [0; 4].map(|_| random.next() >> random.below(64));
-        let [big_endian, pair, extensions] = [0; 3].map(|_| random.next() as u32);
-        let dim = from_fn(|i| if i == 0 { random.below(9) as i16 } else { random.next() as i16 });
-        let (datatype, bitpix, step) = (random.next() as i16, random.next() as i16, from_fn(|_| random.next() >> random.below(64)));
-        let refusal = if random.once_in(2) { 0 } else { refusal };
-        asked.record =
-            FileAnswer { refusal, place, data_offset, data_bytes, big_endian, pair, dim, datatype, bitpix, extensions, step };
+        asked.record = any_record(random);
     }
     for _ in 0..random.pick(&[0, 0, 0, 1, 1, 2]) {
         damage(random, &mut asked.record);

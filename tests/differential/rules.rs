@@ -125,6 +125,8 @@ pub struct Known {
     pub bitpix: i16,
     pub unit: usize,
     pub offset: u64,
+    /// vox_offset is a multiple of 16.
+    pub aligned: bool,
     pub image_bytes: u64,
     /// The byte step of each axis.
     pub steps: [u64; 7],
@@ -247,6 +249,9 @@ fn layout(rule: &Extender, file: &[u8]) -> Result<Known, Refusal> {
     if offset > REGION_LIMIT as f32 || (if pair { length > REGION_LIMIT } else { offset < 352.0 }) {
         return refuse(9, 108);
     }
+    // "Tell us when the offset isn't a multiple of 16" (02-change-requests.md, P6): a remainder of two binary32 is exact, and that
+    // of -0 is -0, which equals 0
+    let aligned = offset % 16.0 == 0.0;
     let offset = offset as u64;
     // seven axes of 15 bits and 32 bytes a voxel stay far below 128 bits
     let image_bytes = dim[1..=axes].iter().map(|&d| d as u128).product::<u128>() * (bits as u128 / 8);
@@ -260,7 +265,8 @@ fn layout(rule: &Extender, file: &[u8]) -> Result<Known, Refusal> {
     let extended = (rule.read)(file)?;
     let region_end = if pair { length } else { offset };
     let steps = steps(&dim, bitpix, image_bytes);
-    Ok(Known { order, pair, dim, datatype, bitpix, unit, offset, image_bytes, steps, region_end, extended, spans: Vec::new() })
+    let spans = Vec::new();
+    Ok(Known { order, pair, dim, datatype, bitpix, unit, offset, aligned, image_bytes, steps, region_end, extended, spans })
 }
 
 /// What is known of a file that rules 1 to 12 do not refuse, with its extensions up to the first that rules 13 to 15 refuse, and

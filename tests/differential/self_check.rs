@@ -2,15 +2,16 @@
 //! table of source document 004, the examples of document 002, and the borders that docs/DECISIONS.md settles. Then laws that any
 //! right implementation obeys, on files made at random, and wrong programs that the comparison's cases must notice.
 
-use crate::cases;
+use crate::cases::{self, Call, Case, Other};
 use crate::files::{extension, file_a, Header, EXTENSIONS, NO_EXTENSIONS, OFFSET_352};
-use crate::library::FileAnswer;
+use crate::library::{Answer, FileAnswer, Reply};
 use crate::pieces::twin;
 use crate::record::Asked;
 use crate::rules::*;
 use crate::turn::{came_from, faults, reversed_row, turn, Turn};
 use crate::turn_laws::{broken, Both, Engine, Tried};
-use crate::{case, extender_cases, file_answer, memory, record_cases, turn_cases, wrong_extenders, wrong_steps, wrong_turns};
+use crate::{by_rules, case, extender_cases, file_answer, memory, record_cases, turn_cases};
+use crate::{wrong_alignment, wrong_extenders, wrong_steps, wrong_turns};
 use std::fmt::Debug;
 
 #[derive(Default)]
@@ -117,6 +118,38 @@ fn offsets(checks: &mut Checks) {
     checks.refused("the largest binary32", in_pair(0x7f7f_ffff), 9, 108);
 }
 
+/// Whether vox_offset is a multiple of 16 (02-change-requests.md, P6), of files and by the replies of calls.
+fn alignment(checks: &mut Checks) {
+    let aligned = |file: &[u8]| read(file).map(|known| known.aligned);
+    let private =
+        |order, at: usize| single(order).offset((at as f32).to_bits()).file(&[&NO_EXTENSIONS, &vec![7; at - 352], &[0; 12]]);
+    checks.equal("A is aligned", aligned(&file_a()), Ok(true));
+    for order in [BIG, LITTLE] {
+        for bits in [0, 0x8000_0000, 0x4180_0000, 0x43b0_0000, 0x4d00_0000] {
+            checks.equal("0, -0, 16, 352 and 2^27", aligned(&pair(order).offset(bits).bytes), Ok(true));
+        }
+        for bits in [0x3f80_0000, 0x40e0_0000, 0x4100_0000, 0x41c0_0000, 0x4cff_ffff] {
+            checks.equal("1, 7, 8, 24 and 2^27 - 8", aligned(&pair(order).offset(bits).bytes), Ok(false));
+        }
+        for (at, fact) in [(352, true), (353, false), (360, false), (368, true), (376, false)] {
+            checks.equal("a single file", aligned(&private(order, at)), Ok(fact));
+        }
+    }
+    let answer = |call, file| by_rules(&RESERVED, &Case::at(call, file, Other::none()), &[]).answer;
+    let appended = |file: Vec<u8>| {
+        let call = Call::Append { file_len: file.len() as u64, code: 6 };
+        answer(call, [file, vec![0; 40]].concat())
+    };
+    let done = |length, aligned| Answer::Reply(Reply { length, aligned, ..Reply::default() });
+    checks.equal("an append to A", appended(file_a()), done(380, 1));
+    checks.equal("to a pair at -0", appended(pair(BIG).offset(0x8000_0000).bytes), done(368, 1));
+    checks.equal("to a pair at 8", appended(pair(BIG).offset(0x4100_0000).bytes), done(368, 0));
+    checks.equal("refused", appended(private(BIG, 368)), Answer::Reply(Reply { refusal: 20, ..Reply::default() }));
+    checks.equal("a swap of A", answer(Call::Swap, file_a()), done(0, 0));
+    let voxel = Answer::Reply(Reply { place: 352, length: 2, ..Reply::default() });
+    checks.equal("a voxel of A", answer(Call::Voxel { index: [0; 7] }, file_a()), voxel);
+}
+
 fn images(checks: &mut Checks) {
     let bytes =
         |dims: &[i16], datatype| read(&Header::new(BIG, true).dims(dims).datatype(datatype).bytes).map(|known| known.image_bytes);
@@ -176,6 +209,7 @@ fn voxels_by_record(checks: &mut Checks) {
         datatype: 4,
         bitpix: 16,
         step: [2, 6, 12, 12, 12, 12, 12],
+        aligned: 1,
         ..FileAnswer::default()
     };
     checks.equal("the record of A", file_answer(&read(&file_a())), a);
@@ -724,10 +758,23 @@ fn wrong_steps(checks: &mut Checks) {
     }
 }
 
+/// The wrong alignments on cases of the comparison: on those made for them, and on random ones alone.
+fn wrong_alignment(checks: &mut Checks) {
+    let zeros = memory::zeros(cases::ZEROS);
+    let extenders = cases::FIXED - turn_cases::FIXED - extender_cases::FIXED;
+    let fixed = extenders - record_cases::ALIGNMENTS..extenders;
+    let random = cases::FIXED..cases::FIXED + 20_000;
+    for numbers in [fixed, random] {
+        for (name, count) in wrong_alignment::noticed(numbers.map(|number| case(1, number, zeros)), zeros) {
+            checks.holds(name, count > 0);
+        }
+    }
+}
+
 /// Laws on random files: bytes that a state may not keep change nothing that is read, a voxel by the record is that by the file, a
-/// swap twice restores, an edit's result is accepted and keeps every voxel and every step, removing the extension just appended
-/// restores the file but for a first extender byte above 1, the voxels' ranges fill the image, and the reserved bytes change nothing
-/// but themselves.
+/// swap twice restores, an edit's result is accepted and keeps every voxel, every step and whether the offset is aligned, removing
+/// the extension just appended restores the file but for a first extender byte above 1, the voxels' ranges fill the image, and the
+/// reserved bytes change nothing but themselves.
 fn laws(checks: &mut Checks) {
     let mut accepted = 0;
     for number in 0..2000 {
@@ -737,6 +784,7 @@ fn laws(checks: &mut Checks) {
         let Ok(known) = read(file) else {
             continue;
         };
+        checks.equal("aligned by the whole number", known.aligned, known.offset % 16 == 0);
         if known.offset + known.image_bytes > 1 << 16 {
             continue;
         }
@@ -760,6 +808,7 @@ fn laws(checks: &mut Checks) {
         let moved = read(edited).unwrap();
         checks.equal("one more extension", moved.spans.len(), known.spans.len() + 1);
         checks.equal("and the same steps", moved.steps, known.steps);
+        checks.equal("and the same alignment", moved.aligned, known.aligned);
         let last: [u64; 7] = std::array::from_fn(|i| known.axis(i + 1) - 1);
         let (before, after) = (voxel(file, image.len() as u64, last).unwrap(), voxel(edited, image.len() as u64, last).unwrap());
         checks.equal("voxels move with vox_offset", after.0 - before.0, moved.offset - known.offset);
@@ -824,10 +873,10 @@ fn voxels_fill(known: &Known, file: &[u8], image: &[u8]) -> bool {
 pub fn run() {
     let mut checks = Checks::default();
     let values = [
-        file_a_numbers, offsets, images, steps_read, voxels_by_record, headers, reserved_bytes, extensions, pieces, slices,
-        positions, swaps, edits, turns,
+        file_a_numbers, offsets, alignment, images, steps_read, voxels_by_record, headers, reserved_bytes, extensions, pieces,
+        slices, positions, swaps, edits, turns,
     ];
-    for part in values.into_iter().chain([laws as fn(&mut Checks), turn_laws, wrong_extenders, wrong_steps]) {
+    for part in values.into_iter().chain([laws as fn(&mut Checks), turn_laws, wrong_extenders, wrong_steps, wrong_alignment]) {
         part(&mut checks);
     }
     println!("self-check: {} checks, {} failed", checks.done, checks.failed);

@@ -3,7 +3,7 @@
 
 use crate::cases::{Call, Case};
 use crate::rules::{self, Edit, Extender, Refusal, BASE, RESERVED};
-use crate::{by_rules, reply, Outcome};
+use crate::{by_rules, edit_reply, reply, Outcome};
 
 const REFUSED: Result<bool, Refusal> = Err(Refusal { number: 12, place: 348 });
 
@@ -101,7 +101,7 @@ const WRONG: [(&str, Wrong); 17] = [
                 // the private bytes are written over
                 (Some([0, 0, 0, 0]), _) | (_, false) => denied,
                 _ => match rules::edit(&case.main, 352, &Edit::Append { code, payload: case.other(zeros) }) {
-                    Ok((main, length)) => Outcome { answer: reply(Ok((0, length))), main, ..denied },
+                    Ok((main, length)) => Outcome { answer: edit_reply(&RESERVED, &main, length), main, ..denied },
                     Err(no) => Outcome { answer: reply(Err(no)), ..denied },
                 },
             }
