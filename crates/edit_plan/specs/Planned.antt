@@ -26,8 +26,8 @@ bytesBefore f i = length (joined (take i (extensionList f)))
 abbrev pub bytesOut : List ℕ → Change → ℕ
 bytesOut f change = bytesBefore f (outTo change (length (extensionList f))) - bytesBefore f (outFrom change (length (extensionList f)))
 
--- whether the new file's voxel offset is aligned: a single file's always is, and a pair's stays as it was. The law `fresh-aligned`
--- (edit/Keeping) has it of the fresh file.
+-- whether the new file's voxel offset is aligned: a single file's always is, and a pair's stays as it was. The law `aligned-is`
+-- (edit/Rereading) has it of the fresh file.
 abbrev pub alignedAfter : Kind → Bool → Bool
 alignedAfter Single old = true
 alignedAfter Pair old = old

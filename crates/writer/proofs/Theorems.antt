@@ -2,7 +2,6 @@
 -- written to any buffer that has room it puts the file's first 348 bytes there and leaves the rest.
 use Prim.Native.Nat.{ℕ, _≤_, _<_}
 use mathlib.Core.Path.{_≡_, ap, _∙_}
-use mathlib.Core.Bool.{false}
 use mathlib.Core.List.{List, _++_}
 use borrow.Author.Tests.{le-ltb}
 use lib.ListN.{length, getD, take, drop}
