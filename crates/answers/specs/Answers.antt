@@ -47,7 +47,7 @@ abbrev pub swapReply : Verdict → Reply
 swapReply Accepted = record { refusal = 0; place = 0; length = 0; aligned = 0 }
 swapReply (Refused r) = refusedReply r
 
--- "aligned yes" and "aligned no" as a number
+-- whether an offset is aligned: 1, and 0 where it is not
 abbrev pub isAligned : Bool → ℕ
 isAligned true = 1
 isAligned false = 0

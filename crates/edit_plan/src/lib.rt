@@ -36,7 +36,7 @@ fn stop(number: u64) -> Planned
     Planned::Stop(Refusal { number, place: 0 })
 }
 
-// Whether the new file's voxel offset is aligned. A single file's is 352 and a multiple of 16; a pair's stays as it was.
+// Whether the new file's voxel offset is aligned. A single file's is 352 plus a multiple of 16; a pair's stays as it was.
 fn aligned_after(kind: Kind, aligned: bool) -> bool
     ensures { λ r. ⌜ r ≡ alignedAfter kind aligned ⌝ }
 {

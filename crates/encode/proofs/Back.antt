@@ -1,6 +1,6 @@
--- A record that was written reads back as itself, its sizes and aligned fact apart, which are no bytes: the other way round of the round trip in Round.antt
--- (01-scope.md, demand 2). It is said of a record as reading makes them, `Writable`, which the record of any file that states 348 and its
--- kind's magic is.
+-- A record that was written reads back as itself, its sizes and aligned fact apart, which are no bytes: the other way round of the round
+-- trip in Round.antt (01-scope.md, demand 2). It is said of a record as reading makes them, `Writable`, which the record of any file that
+-- states 348 and its kind's magic is.
 use Prim.Native.Nat.{ℕ, zero, suc, _+_, _*_, _<_}
 use mathlib.Core.Path.{_≡_, refl, ap, sym, _∙_}
 use mathlib.Core.Bool.{Bool, false}
