@@ -25,22 +25,25 @@ bytes-onto : {l r : List ℕ} → Bytes l → Bytes r → Bytes (reverseAux l r)
 bytes-onto none q = q
 bytes-onto (one h p) q = bytes-onto p (one h q)
 
+pub bytes-reverse : {l : List ℕ} → Bytes l → Bytes (reverse l)
+bytes-reverse p = bytes-onto p none
+
 bytes-lowFirst : (order : Order) {l : List ℕ} → Bytes l → Bytes (lowFirst order l)
 bytes-lowFirst Little p = p
-bytes-lowFirst Big p = bytes-onto p none
+bytes-lowFirst Big p = bytes-reverse p
 
-bytes-tabulate : (f : ℕ → ℕ) → ((i : ℕ) → f i < 256) → (n : ℕ) → Bytes (tabulate f n)
+pub bytes-tabulate : (f : ℕ → ℕ) → ((i : ℕ) → f i < 256) → (n : ℕ) → Bytes (tabulate f n)
 bytes-tabulate f h zero = none
 bytes-tabulate f h (suc n) = one (h 0) (bytes-tabulate (λ i. f (suc i)) (λ i. h (suc i)) n)
 
-littleValue-back : {l : List ℕ} → Bytes l → littleBytes (length l) (littleValue l) ≡ l
+pub littleValue-back : {l : List ℕ} → Bytes l → littleBytes (length l) (littleValue l) ≡ l
 littleValue-back none = refl
 littleValue-back (one {a} {l} h p) =
     let low : (a + 256 * littleValue l) % 256 ≡ a = omega arith in
     let high : (a + 256 * littleValue l) / 256 ≡ littleValue l = omega arith in
     rw (low, high) (ap (λ (r : List ℕ). a ∷ r) (littleValue-back p))
 
-littleValue-below : {l : List ℕ} → Bytes l → littleValue l < 256 ^ length l
+pub littleValue-below : {l : List ℕ} → Bytes l → littleValue l < 256 ^ length l
 littleValue-below none = omega arith
 littleValue-below (one {a} {l} h p) = rw (pow-suc 256 (length l)) (omega (arith, littleValue-below p))
 
@@ -103,7 +106,7 @@ module _ (order : Order) (s : List ℕ) (all : (i : ℕ) → getD s i 0 < 256) w
   i16-back at = rw (ofZ-toZ w16 (u16At order s at) (u16-fits at)) (u16-back at)
 
 -- the other way: a number, written and read back
-littleValue-of : (w n : ℕ) → n < 256 ^ w → littleValue (littleBytes w n) ≡ n
+pub littleValue-of : (w n : ℕ) → n < 256 ^ w → littleValue (littleBytes w n) ≡ n
 littleValue-of zero n h = omega arith
 littleValue-of (suc w) n h =
     let p : n < 256 ^ w * 256 = rw (pow-suc 256 w) at h in

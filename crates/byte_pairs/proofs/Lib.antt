@@ -1,0 +1,2 @@
+-- The laws that the functions' proofs rest on, and that callers cite.
+pub mod Pairs

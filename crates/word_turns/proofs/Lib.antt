@@ -1,0 +1,2 @@
+-- The laws that the functions' proofs rest on.
+pub mod Blocks
