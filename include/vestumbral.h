@@ -15,13 +15,13 @@
  * What the caller owes:
  *   - Each pointer points to at least as many bytes as the length after it says, and nothing else writes them during the call.
  *     NULL with length 0 is an empty buffer.
- *   - Where a call writes (swap, append, replace, remove, turn), what it writes overlaps nothing else that it is given: not `file`
+ *   - Where a call writes (both swaps, append, replace, remove, turn), what it writes overlaps nothing else that it is given: not `file`
  *     and `image`, not `buffer` and `payload`, not `out` or `out_image` and any other buffer of the call.
  *   - vestumbral_slice_at, vestumbral_position_of and, of a file whose sform_code is above 0, vestumbral_turn compute in binary32
  *     and are called in the default floating-point state: round to nearest, no exception trapped, neither flush-to-zero nor
  *     denormals-are-zero (a program linked with -ffast-math starts with both). In another state a time, a position or a turned srow
  *     number may be another number, and so may what hangs on it: a slice's state and refusal 23. Read, extension_at, voxel,
- *     voxel_in, swap, the edits, the calls for pieces and any other turn do not depend on that state.
+ *     voxel_in, both swaps, the edits, the calls for pieces and any other turn do not depend on that state.
  *   - The stack has room: a turn takes some 72 KiB of it, every other call less than 8.
  *
  * The refusals. They are tried in the order of their numbers, but 24 and 25 before anything else by the calls that give them, and
@@ -82,7 +82,7 @@
 extern "C" {
 #endif
 
-/* The answer of voxel, voxel_in, swap, append, replace and remove. */
+/* The answer of voxel, voxel_in, swap, swap_by_unit, append, replace and remove. */
 typedef struct {
     uint64_t refusal;     /* 0: done; else a number of the table */
     uint64_t place;       /* of a refusal its place; of a voxel its place; else 0 */
@@ -191,11 +191,14 @@ vestumbral_slice vestumbral_slice_at(const uint8_t *file, size_t file_len, uint6
 vestumbral_position vestumbral_position_of(const uint8_t *file, size_t file_len, uint64_t i, uint64_t j, uint64_t k);
 
 /*
- * Turns the file to the other byte order in place: every number of the header, each extension's size and code, and the image, unit
- * by unit. Texts, the extender, payloads, private bytes, an image file's front and bytes after the image stay. Refusals 1..15, then
+ * Turns the file to the other byte order in place: every number of the header, each extension's size and code, and each swap unit of
+ * the image. Texts, the extender, payloads, private bytes, an image file's front and bytes after the image stay. Refusals 1..15, then
  * 16 for a pair.
  */
 vestumbral_reply vestumbral_swap(uint8_t *file, size_t file_len, uint8_t *image, size_t image_len);
+
+/* The same answers and bytes as vestumbral_swap on any input, refused or not; one unit of the image after the other, and slower. */
+vestumbral_reply vestumbral_swap_by_unit(uint8_t *file, size_t file_len, uint8_t *image, size_t image_len);
 
 /*
  * The three edits work in place. The file is the first file_len bytes of the buffer. `length` answers its new length, and `aligned`

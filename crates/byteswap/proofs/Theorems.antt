@@ -1,6 +1,7 @@
 -- What swapping does to a file and its image file, over the reader's definitions (01-scope.md, "Voxels and byte order" and the demands
 -- on what is proved): what it refuses, and by which numbers; a single file needs no image buffer; swapping again restores each byte; a
--- swapped file is accepted and reads as the same record in the other order; and each voxel has its units turned round.
+-- swapped file is accepted and reads as the same record in the other order; and each voxel has its units turned round. And that the two
+-- calls which swap agree (02-change-requests.md, P3).
 use Prim.Native.Nat.{ℕ, _+_, _*_, _/_, _≤_}
 use mathlib.Core.Path.{_≡_, refl, sym, ap, _∙_}
 use mathlib.Core.Bool.{Bool, true, false}
@@ -9,6 +10,7 @@ use native.Mathlib.Omega.{arith}
 use native.Mathlib.Nat.{div-add-mod'}
 use lib.ListN.{length}
 use Rattle.refusal.specs.declared.Refusal.{Refusal}
+use Rattle.refusal.specs.declared.Verdict.{Verdict}
 use Rattle.refusal.specs.declared.Verdict.the-variants.{Accepted, Refused}
 use Rattle.refusal.specs.Table.{Row, row, verdict, then}
 use Rattle.refusal.proofs.Rows.{none, one, refused-never, clear-accepted, between, between-wider, verdict-number}
@@ -28,7 +30,7 @@ use Rattle.reader.specs.Reading.{judgement, readingBy, readingOf, IsAccepted}
 use Rattle.reader.proofs.File.{accepted-shape}
 use Rattle.reader.proofs.Theorems.{answered-number}
 use Rattle.units.specs.Units.{turned}
-use Rattle.byteswap.specs.Swap.{unlessCut, fileRuns, swapList, answerBy, turnedFile, turnedImage, swapAnswer, swappedFile, swappedImage}
+use Rattle.byteswap.specs.Swap.{unlessCut, fileRuns, swapList, answerBy, turnedFile, turnedImage, swapAnswer, swappedFile, swappedImage, Swaps}
 use Rattle.byteswap.specs.Other.{readInOther}
 use Rattle.byteswap.proofs.Whole.{placeOf, unitFor, room, unit-known, image-single}
 use Rattle.byteswap.proofs.Answers.{swaps-stopped, image-turned}
@@ -206,3 +208,11 @@ module _ (file image : List ℕ) (a : swapAnswer file image ≡ Accepted) where
         (λ i. voxelIn k (holder (kindOf file) (file-is file image xs e i) (image-turned file image xs e i)))
         ∙ rw units-of at v
         ∙ (λ i. turned (unit i) (t .bytes / t .unit) (voxelIn k (holder (kindOf file) file image)))
+
+-- ---- The two calls
+
+-- "both give the same answers and bytes on any input, refused or not" (02-change-requests.md, P3). Both calls ensure `Swaps` of any file and image file;
+-- so what one of them answers and leaves is what the other does.
+pub swaps-agree : (file image : List ℕ) {a b : Verdict} {f g i j : List ℕ} → Swaps file image a f i → Swaps file image b g j
+    → (a ≡ b) × (f ≡ g) × (i ≡ j)
+swaps-agree file image p q = (p .0 ∙ sym (q .0), p .1 ∙ sym (q .1), p .2 ∙ sym (q .2))

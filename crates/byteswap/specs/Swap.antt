@@ -3,6 +3,7 @@
 -- bytes, payloads, an image file's front, bytes after the image." So a file is one list of runs (crate units); a run of width 1
 -- stays, and so does what follows the last run. The unit of a file and the runs of its extensions are those of crate turning.
 use Prim.Native.Nat.{ℕ, _-_, _/_}
+use mathlib.Core.Path.{_≡_}
 use mathlib.Core.Bool.{Bool, cond}
 use mathlib.Core.List.{List, [], _∷_, _++_}
 use lib.ListN.{length}
@@ -78,3 +79,8 @@ swappedFile file image = turnedFile (swapList file image) (layoutOf file) file
 
 unfoldable pub swappedImage : List ℕ → List ℕ → List ℕ
 swappedImage file image = turnedImage (swapList file image) (layoutOf file) file image
+
+-- What both swaps promise: of the answer, and of what the file and the image file hold afterwards. 02-change-requests.md, P3: "both give the same answers and
+-- bytes on any input, refused or not"
+abbrev pub Swaps : List ℕ → List ℕ → Verdict → List ℕ → List ℕ → Type 0
+Swaps file image answer file′ image′ = (answer ≡ swapAnswer file image) × (file′ ≡ swappedFile file image) × (image′ ≡ swappedImage file image)

@@ -12,6 +12,13 @@ use extension::FIRST;
 use field::Order;
 use rules::Image;
 
+// How the units of an image are turned round: several at once by whole words, or one after the other. Both leave the same
+// bytes (02-change-requests.md, P3).
+pub enum Engine {
+    ByWord,
+    ByUnit,
+}
+
 // The swap unit of a file: that of its datatype.
 pub fn unit_in(file: &[u8], order: Order) -> usize
     requires { ⌜ 348 ≤ length (now file) ⌝ }
@@ -43,11 +50,14 @@ pub fn turn_list(file: &mut [u8], count: usize, order: Order)
 }
 
 // Turns round each unit of an image, in the buffer that holds it.
-pub fn turn_image(buf: &mut [u8], image: Image, unit: usize)
+pub fn turn_image(buf: &mut [u8], image: Image, unit: usize, engine: Engine)
     requires { ⌜ (1 ≤ unit) × (image .offset + image .bytes ≤ length (now buf)) ⌝ }
     ensures { λ _. ⌜ now (buf .exit) ≡ turnedAt unit (image .offset) (image .bytes / unit) (now (buf .entry)) ⌝ }
 {
     let start = image.offset as usize;
     let count = image.bytes as usize / unit;
-    units::turn_units(buf, start, count, unit);
+    match engine {
+        Engine::ByWord => word_turns::turn_many(buf, start, count, unit),
+        Engine::ByUnit => units::turn_units(buf, start, count, unit),
+    }
 }

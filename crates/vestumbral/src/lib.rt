@@ -129,6 +129,18 @@ pub extern "C" fn vestumbral_swap(file: &mut [u8], image: &mut [u8]) -> Reply
     answers::swap_reply(verdict)
 }
 
+// The same answers and bytes as vestumbral_swap, unit by unit.
+#[no_mangle]
+pub extern "C" fn vestumbral_swap_by_unit(file: &mut [u8], image: &mut [u8]) -> Reply
+    ensures { λ a.
+        ⌜ (a ≡ swapReply (swapAnswer (now (file .entry)) (now (image .entry))))
+        × (now (file .exit) ≡ swappedFile (now (file .entry)) (now (image .entry)))
+        × (now (image .exit) ≡ swappedImage (now (file .entry)) (now (image .entry))) ⌝ }
+{
+    let verdict = byteswap::swap_by_unit(file, image);
+    answers::swap_reply(verdict)
+}
+
 // Turns a volume into the fronts of two lent buffers, of which the second is for a pair's image file: 1 to 15, 16 for a pair,
 // 29, 30, 23, 22.
 #[no_mangle]

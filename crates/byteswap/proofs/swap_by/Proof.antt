@@ -1,9 +1,9 @@
--- `swap` meets its contract: a refused file refuses the swap.
+-- `swap_by` meets its contract: a refused file refuses the swap.
 use mathlib.Core.Path.{sym, _∙_}
 use Rattle.byteswap.proofs.Answers.{swaps-hidden}
 use borrow.Author.Needs.{needs}
-use Rattle.byteswap.proofs.swap.Statement.{statement}
-use Rattle.byteswap.proofs.swap.Tie as tie
+use Rattle.byteswap.proofs.swap_by.Statement.{statement}
+use Rattle.byteswap.proofs.swap_by.Tie as tie
 
 outline-of-requires : tie.Need-outline-of-requires
 outline-of-requires c κs = search needs
@@ -37,8 +37,8 @@ same-length-3 c = search needs
 returns-2 : tie.Need-returns-2
 returns-2 c = search needs
 
-pub swap-spec : {M : Type 1} → statement M
-swap-spec =
+pub swap-by-spec : {M : Type 1} → statement M
+swap-by-spec =
     tie.close
     (tie.spec
     outline-of-requires
