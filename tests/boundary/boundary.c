@@ -160,6 +160,7 @@ static void too_short(uint8_t *bytes, size_t length)
     CHECK(float_bits(position.x) == 0 && float_bits(position.y) == 0 && float_bits(position.z) == 0);
     CHECK(refused(vestumbral_voxel(bytes, length, NULL, 0, 0, 0, 0, 0, 0, 0, 0), 1));
     CHECK(refused(vestumbral_swap(bytes, length, NULL, 0), 1));
+    CHECK(refused(vestumbral_swap_by_unit(bytes, length, NULL, 0), 1));
     CHECK(refused(vestumbral_append(bytes, length, length, 0, NULL, 0), 1));
     CHECK(refused(vestumbral_replace(bytes, length, length, 0, 0, NULL, 0), 1));
     CHECK(refused(vestumbral_remove(bytes, length, length, 0), 1));
@@ -640,17 +641,19 @@ static void reserved_bytes(enum source source)
     }
 }
 
-static void swaps(enum source source)
+typedef vestumbral_reply swap_call(uint8_t *, size_t, uint8_t *, size_t);
+
+static void swaps(enum source source, swap_call *swap)
 {
     uint8_t *a = take(source, 364);
     uint8_t before[364];
     file_a(before);
     memcpy(a, before, 364);
-    CHECK(done(vestumbral_swap(a, 364, NULL, 0), 0, 0));
+    CHECK(done(swap(a, 364, NULL, 0), 0, 0));
     vestumbral_file file = vestumbral_read(a, 364);
     CHECK(file.refusal == 0 && file.big_endian == 1 && file.dim[1] == 3 && file.data_offset == 352 && file.data_bytes == 12);
     CHECK(a[352] == 2 && a[353] == 1 && a[363] == 11 && memcmp(a + 344, before + 344, 8) == 0);
-    CHECK(done(vestumbral_swap(a, 364, a, 0), 0, 0));
+    CHECK(done(swap(a, 364, a, 0), 0, 0));
     CHECK(memcmp(a, before, 364) == 0);
     give_back(source, a, 364);
 
@@ -662,8 +665,8 @@ static void swaps(enum source source)
         header(pair, 1, (const int[]){1, 1}, rows[i][0], rows[i][1], 0x3f800000);
         for (size_t j = 0; j <= voxel; j++)
             image[j] = j;
-        CHECK(refused(vestumbral_swap(pair, 348, image, voxel), 16) && pair[0] == 0x5c && image[voxel] == voxel);
-        CHECK(done(vestumbral_swap(pair, 348, image, voxel + 1), 0, 0));
+        CHECK(refused(swap(pair, 348, image, voxel), 16) && pair[0] == 0x5c && image[voxel] == voxel);
+        CHECK(done(swap(pair, 348, image, voxel + 1), 0, 0));
         CHECK(image[0] == 0);
         for (size_t j = 0; j < voxel; j++)
             CHECK(image[1 + j] == 1 + j / unit * unit + (unit - 1 - j % unit));
@@ -673,6 +676,39 @@ static void swaps(enum source source)
         give_back(source, pair, 348);
         give_back(source, image, voxel + 1);
     }
+}
+
+/*
+ * Every number of units up to some blocks of them, so that each number is left behind the last whole word and block; of a single file
+ * whose bytes end with the image, and of an image file whose front and tail stay. One byte less is refused.
+ */
+static void units(enum source source, swap_call *swap)
+{
+    const int rows[][3] = {{4, 16, 2}, {16, 32, 4}, {64, 64, 8}, {1536, 128, 16}};
+    for (size_t i = 0; i < sizeof rows / sizeof *rows; i++)
+        for (size_t count = 1; count <= 72; count++) {
+            const size_t unit = rows[i][2], bytes = count * unit, front = 7, tail = 5;
+            uint8_t *single = take(source, 352 + bytes), *pair = take(source, 348), *image = take(source, front + bytes + tail);
+            header(single, 0, (const int[]){1, (int)count}, rows[i][0], rows[i][1], 0x43b00000);
+            memset(single + 348, 0, 4);
+            header(pair, 1, (const int[]){1, (int)count}, rows[i][0], rows[i][1], 0x40e00000);
+            for (size_t j = 0; j < bytes; j++)
+                single[352 + j] = image[front + j] = 31 * j + j / 256;
+            memset(image, 0xa5, front);
+            memset(image + front + bytes, 0x5a, tail);
+            vestumbral_reply cut = swap(single, 351 + bytes, NULL, 0);
+            CHECK(cut.refusal == 11 && cut.place == 108 && refused(swap(pair, 348, image, front + bytes - 1), 16));
+            CHECK(done(swap(single, 352 + bytes, NULL, 0), 0, 0) && done(swap(pair, 348, image, front + bytes + tail), 0, 0));
+            for (size_t j = 0; j < bytes; j++) {
+                const size_t from = j / unit * unit + (unit - 1 - j % unit);
+                const uint8_t byte = 31 * from + from / 256;
+                CHECK(single[352 + j] == byte && image[front + j] == byte);
+            }
+            CHECK(all(image, 0xa5, front) && all(image + front + bytes, 0x5a, tail));
+            give_back(source, single, 352 + bytes);
+            give_back(source, pair, 348);
+            give_back(source, image, front + bytes + tail);
+        }
 }
 
 /* Document 004's table: dim[3] is 7, slice_duration 0.1, slices 1 to 5; the times by rank in binary32. */
@@ -963,7 +999,10 @@ int main(void)
         alignments(source);
         bare_pairs(source);
         reserved_bytes(source);
-        swaps(source);
+        swaps(source, vestumbral_swap);
+        swaps(source, vestumbral_swap_by_unit);
+        units(source, vestumbral_swap);
+        units(source, vestumbral_swap_by_unit);
         slices(source);
         positions(source);
         pieces_of_each_length(source);

@@ -8,6 +8,7 @@ use crate::memory::Where;
 use crate::record::Asked;
 use crate::record_cases;
 use crate::rules::{self, Edit, Known, Order, DATATYPES, REGION, REGION_LIMIT, TOTAL};
+use crate::swap_cases;
 use crate::turn::Turn;
 use crate::turn_cases;
 use std::fmt;
@@ -69,6 +70,7 @@ pub enum Call {
     SliceAt { slice: u64 },
     PositionOf { index: [u64; 3] },
     Swap,
+    SwapByUnit,
     Append { file_len: u64, code: i32 },
     Replace { file_len: u64, number: u64, code: i32 },
     Remove { file_len: u64, number: u64 },
@@ -689,7 +691,7 @@ fn slice(random: &mut Random, file: &[u8], known: Option<&Known>) -> u64 {
 }
 
 /// The cases that hang on no seed, and come first.
-pub const FIXED: u64 = LARGE + CUT + TALL + record_cases::FIXED + extender_cases::FIXED + turn_cases::FIXED;
+pub const FIXED: u64 = LARGE + CUT + TALL + swap_cases::FIXED + record_cases::FIXED + extender_cases::FIXED + turn_cases::FIXED;
 
 /// The cases at 2^27 and 2^40, which take up to half a gigabyte while they run; the files that are cut at every place; those that
 /// are fed up to 2^41 bytes.
@@ -697,11 +699,15 @@ pub const LARGE: u64 = 22;
 const CUT: u64 = 22;
 const TALL: u64 = 13;
 
+/// The first case of each number of units, among those that hang on no seed.
+pub const SWAPS: u64 = LARGE + CUT + TALL;
+
 pub fn fixed(number: u64) -> Case {
-    let groups: [(u64, fn(u64) -> Case); 6] = [
+    let groups: [(u64, fn(u64) -> Case); 7] = [
         (LARGE, large),
         (CUT, |number| Case::fed(cut_everywhere(number), Feeding::EveryCut)),
         (TALL, |number| Case::fed(tall(number), Feeding::ToTotal)),
+        (swap_cases::FIXED, swap_cases::fixed),
         (record_cases::FIXED, record_cases::fixed),
         (extender_cases::FIXED, extender_cases::fixed),
         (turn_cases::FIXED, turn_cases::fixed),

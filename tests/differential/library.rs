@@ -131,6 +131,7 @@ extern "C" {
     pub fn vestumbral_slice_at(file: *const u8, file_len: usize, slice: u64) -> SliceAnswer;
     pub fn vestumbral_position_of(file: *const u8, file_len: usize, i: u64, j: u64, k: u64) -> PositionAnswer;
     pub fn vestumbral_swap(file: *mut u8, file_len: usize, image: *mut u8, image_len: usize) -> Reply;
+    pub fn vestumbral_swap_by_unit(file: *mut u8, file_len: usize, image: *mut u8, image_len: usize) -> Reply;
     pub fn vestumbral_append(
         buffer: *mut u8,
         buffer_len: usize,

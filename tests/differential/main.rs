@@ -1,6 +1,7 @@
 //! Compares the library, called through its C interface, with the rules of 01-scope.md and 02-change-requests.md written a second
 //! time in rules.rs, turn.rs and record.rs: the whole answer, the whole of every lent buffer, and the bytes beside it. A file that
-//! is read is fed in pieces too, a voxel is located by the record of its file too, what a call that writes leaves is read again,
+//! is read is fed in pieces too, a voxel is located by the record of its file too, what is swapped is swapped unit by unit too, what a
+//! call that writes leaves is read again,
 //! what an edit's reply says of the new offset is held to that reading, a turn that is not refused is held to the laws of turns,
 //! and a file whose extender is one of the base's is held to the base's rule.
 //!
@@ -21,12 +22,14 @@ mod record_cases;
 mod records;
 mod rules;
 mod self_check;
+mod swap_cases;
 mod turn;
 mod turn_cases;
 mod turn_laws;
 mod wrong_alignment;
 mod wrong_extenders;
 mod wrong_steps;
+mod wrong_swaps;
 mod wrong_turns;
 
 use cases::{Call, Case, Feeding, Other, Piece};
@@ -144,7 +147,7 @@ fn by_rules(extender: &Extender, case: &Case, zeros: &[u8]) -> Outcome {
         Call::VoxelIn(asked) => kept(reply(asked.voxel())),
         Call::SliceAt { slice } => kept(slice_answer(main, slice)),
         Call::PositionOf { index } => kept(position_answer(main, index)),
-        Call::Swap => match rules::swap(main, other) {
+        Call::Swap | Call::SwapByUnit => match rules::swap(main, other) {
             Ok((main, other)) => Outcome { main, other, ..kept(reply(Ok((0, 0)))) },
             Err(no) => kept(reply(Err(no))),
         },
@@ -211,6 +214,7 @@ unsafe fn call(call: Call, (main, length): Buffer, (other, other_len): Buffer, r
         Call::SliceAt { slice } => Answer::Slice(vestumbral_slice_at(main, length, slice)),
         Call::PositionOf { index: [i, j, k] } => Answer::Position(vestumbral_position_of(main, length, i, j, k)),
         Call::Swap => Answer::Reply(vestumbral_swap(main, length, other, other_len)),
+        Call::SwapByUnit => Answer::Reply(vestumbral_swap_by_unit(main, length, other, other_len)),
         Call::Append { file_len, code } => Answer::Reply(vestumbral_append(main, length, file_len, code, other, other_len)),
         Call::Replace { file_len, number, code } => {
             Answer::Reply(vestumbral_replace(main, length, file_len, number, code, other, other_len))
@@ -270,8 +274,15 @@ fn buffer_difference(name: &str, rules: &[u8], library: &[u8], guards_kept: bool
     (!guards_kept).then(|| format!("{name}: bytes beside it were changed"))
 }
 
-/// How the library differs from the rules.
+/// How the library differs from the rules. What is swapped is swapped unit by unit too.
 fn compare(case: &Case, memory: &mut Memory, counts: &mut Counts) -> Option<String> {
+    let by_unit = Case { call: Call::SwapByUnit, ..case.clone() };
+    let calls = if case.call == Call::Swap { vec![case, &by_unit] } else { vec![case] };
+    calls.into_iter().find_map(|case| call_difference(case, memory, counts))
+}
+
+/// How one call differs.
+fn call_difference(case: &Case, memory: &mut Memory, counts: &mut Counts) -> Option<String> {
     let expected = by_rules(&RESERVED, case, memory.zeros);
     let (zeros, closed) = (memory.zeros, memory.closed);
     let main = memory.main.lend(&case.main, case.main_at);
@@ -375,14 +386,15 @@ fn reduce(case: &Case, memory: &mut Memory) -> Case {
     least
 }
 
-const CALLS: [&str; 14] = [
+const CALLS: [&str; 15] = [
     "read", "extension", "voxel", "slice", "position", "swap", "append", "replace", "remove", "take", "pieces", "pieces_ext",
-    "turn", "voxel_in",
+    "turn", "voxel_in", "by_unit",
 ];
 const PIECES_TAKE: usize = 9;
 const PIECES_FILE: usize = 10;
 const PIECES_EXTENSION: usize = 11;
 const VOXEL_IN: usize = 13;
+const SWAP_BY_UNIT: usize = 14;
 
 /// The refusals that each call can give.
 fn possible(call: usize) -> Vec<usize> {
@@ -393,7 +405,7 @@ fn possible(call: usize) -> Vec<usize> {
         "voxel_in" => &[16, 17, 26],
         "slice" => &[17],
         "position" => &[17, 23],
-        "swap" => &[16],
+        "swap" | "by_unit" => &[16],
         "append" => &[19, 20, 21, 22, 24],
         "replace" => &[18, 19, 21, 22, 24],
         "remove" => &[18, 24],
@@ -416,6 +428,7 @@ fn call_number(call: &Call) -> usize {
         Call::Remove { .. } => 8,
         Call::Turn { .. } => 12,
         Call::VoxelIn(_) => VOXEL_IN,
+        Call::SwapByUnit => SWAP_BY_UNIT,
     }
 }
 

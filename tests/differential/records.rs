@@ -193,7 +193,7 @@ pub fn difference(case: &Case, file: &[u8], expected: &Outcome, counts: &mut Cou
             return None;
         }
         _ if expected.answer.refusal() != 0 => return None,
-        Call::Swap => (0, &expected.main[..]),
+        Call::Swap | Call::SwapByUnit => (0, &expected.main[..]),
         Call::Append { .. } | Call::Replace { .. } | Call::Remove { .. } => (1, &expected.main[..length]),
         Call::Turn { .. } => (2, &expected.rooms[0][..length]),
         _ => return None,

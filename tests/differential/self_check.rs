@@ -11,7 +11,7 @@ use crate::rules::*;
 use crate::turn::{came_from, faults, reversed_row, turn, Turn};
 use crate::turn_laws::{broken, Both, Engine, Tried};
 use crate::{by_rules, case, extender_cases, file_answer, memory, record_cases, turn_cases};
-use crate::{wrong_alignment, wrong_extenders, wrong_steps, wrong_turns};
+use crate::{swap_cases, wrong_alignment, wrong_extenders, wrong_steps, wrong_swaps, wrong_turns};
 use std::fmt::Debug;
 
 #[derive(Default)]
@@ -146,6 +146,7 @@ fn alignment(checks: &mut Checks) {
     checks.equal("to a pair at 8", appended(pair(BIG).offset(0x4100_0000).bytes), done(368, 0));
     checks.equal("refused", appended(private(BIG, 368)), Answer::Reply(Reply { refusal: 20, ..Reply::default() }));
     checks.equal("a swap of A", answer(Call::Swap, file_a()), done(0, 0));
+    checks.equal("unit by unit", answer(Call::SwapByUnit, file_a()), done(0, 0));
     let voxel = Answer::Reply(Reply { place: 352, length: 2, ..Reply::default() });
     checks.equal("a voxel of A", answer(Call::Voxel { index: [0; 7] }, file_a()), voxel);
 }
@@ -758,6 +759,18 @@ fn wrong_steps(checks: &mut Checks) {
     }
 }
 
+/// The wrong swaps on cases of the comparison: on those made for them, and on random ones alone.
+fn wrong_swaps(checks: &mut Checks) {
+    let zeros = memory::zeros(cases::ZEROS);
+    let fixed = cases::SWAPS..cases::SWAPS + swap_cases::FIXED;
+    let random = cases::FIXED..cases::FIXED + 20_000;
+    for numbers in [fixed, random] {
+        for (name, count) in wrong_swaps::noticed(numbers.map(|number| case(1, number, zeros)), zeros) {
+            checks.holds(name, count > 0);
+        }
+    }
+}
+
 /// The wrong alignments on cases of the comparison: on those made for them, and on random ones alone.
 fn wrong_alignment(checks: &mut Checks) {
     let zeros = memory::zeros(cases::ZEROS);
@@ -876,7 +889,8 @@ pub fn run() {
         file_a_numbers, offsets, alignment, images, steps_read, voxels_by_record, headers, reserved_bytes, extensions, pieces,
         slices, positions, swaps, edits, turns,
     ];
-    for part in values.into_iter().chain([laws as fn(&mut Checks), turn_laws, wrong_extenders, wrong_steps, wrong_alignment]) {
+    let wrong = [wrong_extenders, wrong_steps, wrong_swaps, wrong_alignment];
+    for part in values.into_iter().chain([laws as fn(&mut Checks), turn_laws]).chain(wrong) {
         part(&mut checks);
     }
     println!("self-check: {} checks, {} failed", checks.done, checks.failed);

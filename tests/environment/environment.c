@@ -1,6 +1,6 @@
 /*
  * The calls in floating-point states that are not the default: each rounding mode, with flush-to-zero and denormals-are-zero, and
- * with every exception trapped. There read, extension_at, voxel, voxel_in, swap, the edits, the calls for pieces and a turn without
+ * with every exception trapped. There read, extension_at, voxel, voxel_in, both swaps, the edits, the calls for pieces and a turn without
  * sform answer as in the default state, leave the same bytes in every lent buffer, and do not touch the state: their only float is
  * the vox_offset of an edit, a multiple of 16 up to 2^27, which no state rounds. Slice times, positions and the srow numbers of a
  * turn are computed in the state, so the header asks for the default; the lines that are printed show what another makes of one of
@@ -138,6 +138,7 @@ static void edits(void)
             reply = vestumbral_replace(buffer, lent, reply.length, 1, 8, payload, lengths[i]);
             wrote("replace", reply, lent, reply.length);
             wrote("swap", vestumbral_swap(buffer, reply.length, image, sizeof image), lent, reply.length);
+            wrote("swap by unit", vestumbral_swap_by_unit(buffer, reply.length, image, sizeof image), lent, reply.length);
             reply = vestumbral_remove(buffer, lent, reply.length, 0);
             wrote("remove", reply, lent, reply.length);
             reply = vestumbral_remove(buffer, lent, reply.length, 0);
