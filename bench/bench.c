@@ -5,8 +5,8 @@
  *
  * The plain C (plain.h) judges the same rules and gives the same answers; before anything is timed, both are asked of 200,000
  * files with bytes changed at random, and the run stops where they differ, in the steps of a file too. Beside the calls that only
- * read stand a copy and a move of the bytes that reading looks at (header, extender, extensions); beside a swap of 64 MiB a copy and
- * a move of the image; beside an append and a removal that slide 64 MiB a copy and a move of these, the move by the same distance.
+ * read stand a copy and a move of the bytes that reading looks at (header, extender, extensions); beside a swap of 64 MiB and of 1 MiB
+ * a copy and a move of the image; beside an append and a removal that slide 64 MiB a copy and a move of these, the move by the same distance.
  *
  * The rows of 1000 voxels have the time of one voxel, and beside them stand a copy and a move of each voxel's bytes.
  *   voxel_in: vestumbral_voxel_in, called for each voxel with what vestumbral_read answered before the timing, by value, and with
@@ -52,6 +52,9 @@ enum { VOXELS = 1000, VOXEL_CALLS = 5 };
 /* The bytes that the bridge delivers at a time, and the files of a round that come so. */
 enum { PIECE = 256, PIECE_CALLS = 400 };
 
+/* A swap in cache: its image, how often it is swapped, and the bytes that go together at most. Its rounds undo one another too. */
+enum { CACHED = 1 << 20, CACHED_ROUNDS = 100, CACHED_CALLS = 10, BLOCK = 64 };
+
 /* The axes of the volume that is turned, its voxels, and the bytes after its image. */
 enum { SIDE = 256, SLICES = 128, TURNED = SIDE * SIDE * SLICES, TAIL = 100, TURN_ROUNDS = 9 };
 
@@ -75,7 +78,8 @@ static double now(void)
     return t.tv_sec * 1e9 + t.tv_nsec;
 }
 
-/* The ways of a row; the last, of a file in pieces and of a voxel by what was read before, is the library's on the whole file. */
+/* The ways of a row; the last, of a file in pieces and of a voxel by what was read before, is the library's on the whole file, and of a
+ * swap the library's unit by unit. */
 typedef void way(void);
 
 enum { LIBRARY, MEMCPY, MEMMOVE, PLAIN, WHOLE, WAYS };
@@ -382,16 +386,52 @@ static void voxel_rows(int extensions)
     }
 }
 
+static size_t image_bytes;
+
 static void image_copy(void)
 {
-    memcpy(copy, work + 352, IMAGE);
-    sink = copy[IMAGE - 1];
+    memcpy(copy, work + 352, image_bytes);
+    sink = copy[image_bytes - 1];
 }
 
 static void image_move(void)
 {
-    memmove(copy + 16, copy, IMAGE);
-    sink = copy[IMAGE - 1];
+    memmove(copy + 16, copy, image_bytes);
+    sink = copy[image_bytes - 1];
+}
+
+static void by_unit_library(void) { sink = vestumbral_swap_by_unit(work, file_len, NULL, 0).refusal; }
+
+/* Both swaps of the same file in the same rounds, a row for each; their rounds leave the file as it was. */
+static void swap_row(const char *input, const int dims[4], int datatype, int bitpix, int rounds, int calls)
+{
+    static way *const ways[WAYS] = {swap_library, image_copy, image_move, swap_plain, by_unit_library};
+    double best[WAYS];
+    file_len = other_len = make(0, dims, datatype, bitpix);
+    image_bytes = file_len - 352;
+    memcpy(other, work, ROOM);
+    measure(best, ways, rounds, calls, 1);
+    same_files();
+    print_row("swap", input, best);
+    best[LIBRARY] = best[WHOLE];
+    best[WHOLE] = INFINITY;
+    print_row("swap_by_unit", input, best);
+}
+
+/* The largest image with at most `most` units, nearly square, that leaves `left` units behind blocks of so many. */
+static void leaving(int dims[4], int most, int block, int left)
+{
+    int side = 1;
+    while ((side + 1) * (side + 1) <= most)
+        side++;
+    dims[0] = 3;
+    dims[1] = dims[2] = dims[3] = 1;
+    for (int a = side; a > side - 16; a--)
+        for (int b = most / a; b > most / a - 16; b--)
+            if (a * b % block == left && a * b > dims[1] * dims[2]) {
+                dims[1] = a;
+                dims[2] = b;
+            }
 }
 
 static void swap_rows(void)
@@ -400,13 +440,17 @@ static void swap_rows(void)
     for (int i = 0; i < 5; i++) {
         char input[32];
         const int dims[4] = {3, 1024, 1024, 64 * 8 / types[i][2]};
-        file_len = other_len = make(0, dims, types[i][1], types[i][2]);
-        memcpy(other, work, ROOM);
-        way *const ways[WAYS] = {swap_library, image_copy, image_move, swap_plain};
         snprintf(input, sizeof input, "64 MiB, unit %d", types[i][0]);
-        row("swap", input, ways, LARGE_ROUNDS, 1, 1);
-        same_files();
+        swap_row(input, dims, types[i][1], types[i][2], LARGE_ROUNDS, 1);
     }
+    for (int i = 1; i < 5; i++)
+        for (int left = 0; left < 4 && left < BLOCK / types[i][0]; left++) {
+            char input[32];
+            int dims[4];
+            leaving(dims, CACHED / types[i][0], BLOCK / types[i][0], left);
+            snprintf(input, sizeof input, "1 MiB, unit %d, %d left", types[i][0], left);
+            swap_row(input, dims, types[i][1], types[i][2], CACHED_ROUNDS, CACHED_CALLS);
+        }
 }
 
 static void slide_copy(void)
@@ -648,7 +692,7 @@ static void compare_turns(size_t length, const uint8_t *image, size_t image_len)
 static void compare_calls(size_t length)
 {
     enum { SIZE = 4096, IMAGE_SIZE = 512 };
-    static uint8_t images[2][IMAGE_SIZE];
+    static uint8_t images[3][IMAGE_SIZE];
     const uint64_t n = chance(4), i = chance(4), j = chance(3), k = chance(5), last = chance(8) == 0;
     const size_t image_len = chance(IMAGE_SIZE);
     const int32_t code = chance(16) == 0 ? -1 : 6;
@@ -671,8 +715,14 @@ static void compare_calls(size_t length)
         same_replies(vestumbral_voxel_in(f, 0, i, j, k, 0, 0, 0, last), plain_voxel_in(g, 0, i, j, k, 0, 0, 0, last));
     compare_turns(length, images[0], image_len);
     memcpy(other, work, SIZE);
+    memcpy(copy, work, SIZE);
     memcpy(images[1], images[0], IMAGE_SIZE);
-    same_replies(vestumbral_swap(work, length, images[0], image_len), plain_swap(other, length, images[1], image_len));
+    memcpy(images[2], images[0], IMAGE_SIZE);
+    vestumbral_reply swapped = vestumbral_swap(work, length, images[0], image_len);
+    same_replies(swapped, plain_swap(other, length, images[1], image_len));
+    same_replies(swapped, vestumbral_swap_by_unit(copy, length, images[2], image_len));
+    if (memcmp(work, copy, SIZE) != 0 || memcmp(images[0], images[2], IMAGE_SIZE) != 0)
+        fail("the two swaps leave other bytes");
     same_replies(vestumbral_replace(work, SIZE, length, n, code, note, 8 * j),
                  plain_replace(other, SIZE, length, n, code, note, 8 * j));
     same_replies(vestumbral_remove(work, SIZE, length, n), plain_remove(other, SIZE, length, n));
