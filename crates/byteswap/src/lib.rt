@@ -52,16 +52,16 @@ fn swap_by(file: &mut [u8], image: &mut [u8], engine: Engine) -> Verdict
     }
 }
 
-// Swaps the byte order of a file and, of a pair, of its image file: the image by whole words.
+// Swaps the byte order of a file and, of a pair, of its image file: several units of the image together.
 pub fn swap(file: &mut [u8], image: &mut [u8]) -> Verdict
     ensures { λ r. ⌜ Swaps (now (file .entry)) (now (image .entry)) r (now (file .exit)) (now (image .exit)) ⌝ }
 {
-    swap_by(file, image, Engine::ByWord)
+    swap_by(file, image, Engine::Together)
 }
 
 // The same, unit by unit.
 pub fn swap_by_unit(file: &mut [u8], image: &mut [u8]) -> Verdict
     ensures { λ r. ⌜ Swaps (now (file .entry)) (now (image .entry)) r (now (file .exit)) (now (image .exit)) ⌝ }
 {
-    swap_by(file, image, Engine::ByUnit)
+    swap_by(file, image, Engine::Singly)
 }

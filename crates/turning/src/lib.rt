@@ -12,11 +12,11 @@ use extension::FIRST;
 use field::Order;
 use rules::Image;
 
-// How the units of an image are turned round: several at once by whole words, or one after the other. Both leave the same
+// How the units of an image are turned round: several together, or singly, one after the other. Both leave the same
 // bytes (02-change-requests.md, P3).
 pub enum Engine {
-    ByWord,
-    ByUnit,
+    Together,
+    Singly,
 }
 
 // The swap unit of a file: that of its datatype.
@@ -57,7 +57,7 @@ pub fn turn_image(buf: &mut [u8], image: Image, unit: usize, engine: Engine)
     let start = image.offset as usize;
     let count = image.bytes as usize / unit;
     match engine {
-        Engine::ByWord => word_turns::turn_many(buf, start, count, unit),
-        Engine::ByUnit => units::turn_units(buf, start, count, unit),
+        Engine::Together => word_turns::turn_many(buf, start, count, unit),
+        Engine::Singly => units::turn_units(buf, start, count, unit),
     }
 }

@@ -16,7 +16,8 @@ use Rattle.word_blocks.proofs.Stored.{sets-turned}
 -- of a buffer of bytes
 module _ (s : List ℕ) (all : (i : ℕ) → getD s i 0 < 256) where
   -- the bytes of a word that was loaded and turned round
-  pub turned-word : (w at : ℕ) → at + 8 ≤ length s → (n t : ℕ) → n ≡ wordAt s at → t ≡ turnedWord w n → wordBytes t ≡ turned w (8 / w) (take 8 (drop at s))
+  pub turned-word : (w at : ℕ) → at + 8 ≤ length s → (n t : ℕ) → n ≡ wordAt s at → t ≡ turnedWord w n
+      → wordBytes t ≡ turned w (8 / w) (take 8 (drop at s))
   unfolding turnedWord wordBytes wordAt
   turned-word w at room n t loaded turns =
       let b : List ℕ = bytesAt at 8 s in

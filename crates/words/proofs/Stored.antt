@@ -13,12 +13,15 @@ use Rattle.field.specs.Numbers.{bytesAt, littleValue}
 use Rattle.field.proofs.Tabulate.{bytesAt-part}
 use Rattle.words.specs.Words.{wordAt}
 
--- one more byte above the k bits of a number
-pub record Joined (k lo b : ℕ) : Type 0 where
-  pub sum : bitOr lo ((b * 2 ^ k) % 2 ^ 64) ≡ lo + b * 2 ^ k
+-- one more byte above the k bits of a number, as the code has it
+abbrev over : ℕ → ℕ → ℕ → ℕ
+over k lo b = bitOr lo ((b * 2 ^ k) % 2 ^ 64)
+
+record Joined (k lo b : ℕ) : Type 0 where
+  pub sum : over k lo b ≡ lo + b * 2 ^ k
   pub below : lo + b * 2 ^ k < 2 ^ (8 + k)
 
-pub joins : (k lo b : ℕ) → 8 + k ≤ 64 → lo < 2 ^ k → b < 256 → Joined k lo b
+joins : (k lo b : ℕ) → 8 + k ≤ 64 → lo < 2 ^ k → b < 256 → Joined k lo b
 joins k lo b fits p q =
     let shifted : (b * 2 ^ k) % 2 ^ 64 ≡ b * 2 ^ k = shl-exact 8 k 64 q fits in
     record {
@@ -28,10 +31,7 @@ joins k lo b fits p q =
 
 -- eight bytes, each above those before it
 pub eight-joined : (a b c d e f g h : ℕ) → a < 256 → b < 256 → c < 256 → d < 256 → e < 256 → f < 256 → g < 256 → h < 256
-    → bitOr
-    (bitOr (bitOr (bitOr (bitOr (bitOr (bitOr a ((b * 2 ^ 8) % 2 ^ 64)) ((c * 2 ^ 16) % 2 ^ 64)) ((d * 2 ^ 24) % 2 ^ 64)) ((e * 2 ^ 32) % 2 ^ 64)) ((f * 2 ^ 40) % 2 ^ 64)) ((g * 2 ^ 48) % 2 ^ 64))
-    ((h * 2 ^ 56) % 2 ^ 64)
-    ≡ littleValue (a ∷ b ∷ c ∷ d ∷ e ∷ f ∷ g ∷ h ∷ [])
+    → over 56 (over 48 (over 40 (over 32 (over 24 (over 16 (over 8 a b) c) d) e) f) g) h ≡ littleValue (a ∷ b ∷ c ∷ d ∷ e ∷ f ∷ g ∷ h ∷ [])
 eight-joined a b c d e f g h ha hb hc hd he hf hg hh =
     let j₁ = joins 8 a b (omega arith) ha hb in
     let j₂ = joins 16 _ c (omega arith) (j₁ .below) hc in

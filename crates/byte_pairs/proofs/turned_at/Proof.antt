@@ -19,7 +19,9 @@ returns c =
     let known = load .before in
     let start = known .before in
     c .turned .ensures
-    ∙ ap reverse (ap pairBytes (load .pair-at .ensures) ∙ pair-bytes (start .args .s .now) (λ i. known .shared-slice-known .given i .fits) (start .args .at) (start .pre))
+    ∙ ap reverse
+    (ap pairBytes (load .pair-at .ensures)
+    ∙ pair-bytes (start .args .s .now) (λ i. known .shared-slice-known .given i .fits) (start .args .at) (start .pre))
 
 pub turned-at-spec : {M : Type 1} → statement M
 turned-at-spec = tie.close (tie.spec pair-at-requires turned-requires returns)

@@ -173,7 +173,9 @@ returns end =
     let first-put = second-put .before .before .before .before in
     let chosen = first-put .before .before in
     let p = chosen .before in
-    let stored = two-stored (at p) 8 (four (b p) (a p) (d p) (c p)) (four (f p) (e p) (h p) (g p)) (s p) (first-put .put-four .last .0) (second-put .put-four2 .last .0) (length-four (b p) (a p) (d p) (c p)) (first-put .put-four .ensures) (second-put .put-four2 .ensures) in
+    let stored =
+    two-stored (at p) 8 (four (b p) (a p) (d p) (c p)) (four (f p) (e p) (h p) (g p)) (s p) (first-put .put-four .last .0) (second-put .put-four2 .last .0)
+    (length-four (b p) (a p) (d p) (c p)) (first-put .put-four .ensures) (second-put .put-four2 .ensures) in
     rw (chosen .match .keys1)
     (stored ∙ pairs-fours (s p) (at p) (start p .pre .1) (first p) (second p) (third p) (fourth p) (fifth p) (sixth p) (seventh p) (eighth p))
 
@@ -186,7 +188,9 @@ returns-2 end =
     let first-put = second-put .before .before .before .before in
     let chosen = first-put .before .before in
     let p = chosen .before in
-    let stored = two-stored (at p) 8 (four (d p) (c p) (b p) (a p)) (four (h p) (g p) (f p) (e p)) (s p) (first-put .put-four3 .last .0) (second-put .put-four4 .last .0) (length-four (d p) (c p) (b p) (a p)) (first-put .put-four3 .ensures) (second-put .put-four4 .ensures) in
+    let stored =
+    two-stored (at p) 8 (four (d p) (c p) (b p) (a p)) (four (h p) (g p) (f p) (e p)) (s p) (first-put .put-four3 .last .0) (second-put .put-four4 .last .0)
+    (length-four (d p) (c p) (b p) (a p)) (first-put .put-four3 .ensures) (second-put .put-four4 .ensures) in
     rw (chosen .match .keys2)
     (stored ∙ pairs-eights (s p) (at p) (start p .pre .1) (first p) (second p) (third p) (fourth p) (fifth p) (sixth p) (seventh p) (eighth p))
 
@@ -199,7 +203,9 @@ returns-3 end =
     let first-put = second-put .before .before .before .before in
     let chosen = first-put .before .before in
     let p = chosen .before in
-    let stored = two-stored (at p) 8 (four (h p) (g p) (f p) (e p)) (four (d p) (c p) (b p) (a p)) (s p) (first-put .put-four5 .last .0) (second-put .put-four6 .last .0) (length-four (h p) (g p) (f p) (e p)) (first-put .put-four5 .ensures) (second-put .put-four6 .ensures) in
+    let stored =
+    two-stored (at p) 8 (four (h p) (g p) (f p) (e p)) (four (d p) (c p) (b p) (a p)) (s p) (first-put .put-four5 .last .0) (second-put .put-four6 .last .0)
+    (length-four (h p) (g p) (f p) (e p)) (first-put .put-four5 .ensures) (second-put .put-four6 .ensures) in
     rw (wide-other (start p .pre .0) (chosen .match .rest .0 .1) (chosen .match .rest .1))
     (stored ∙ pairs-sixteens (s p) (at p) (start p .pre .1) (first p) (second p) (third p) (fourth p) (fifth p) (sixth p) (seventh p) (eighth p))
 

@@ -103,8 +103,11 @@ returns c =
     let l = chosen .before in
     let t = first-put .before .turned in
     let u = second-put .before .turned2 in
-    let stored = two-stored (at l) 8 (wordBytes (t .result)) (wordBytes (u .result)) (s l) (first-put .put-word .last .0) (second-put .put-word2 .last .0) (length-wordBytes (t .result)) (first-put .put-word .ensures) (second-put .put-word2 .ensures) in
-    rw (chosen .match .keys1) (stored ∙ words-kept (s l) (at l) (start l .pre .1) 4 (one l 4 (t .result) (t .ensures)) (other l 4 (u .result) (u .ensures)) refl refl)
+    let stored =
+    two-stored (at l) 8 (wordBytes (t .result)) (wordBytes (u .result)) (s l) (first-put .put-word .last .0) (second-put .put-word2 .last .0)
+    (length-wordBytes (t .result)) (first-put .put-word .ensures) (second-put .put-word2 .ensures) in
+    rw (chosen .match .keys1)
+    (stored ∙ words-kept (s l) (at l) (start l .pre .1) 4 (one l 4 (t .result) (t .ensures)) (other l 4 (u .result) (u .ensures)) refl refl)
 
 same-length-2 : tie.Need-same-length-2
 same-length-2 c = search needs
@@ -117,8 +120,11 @@ returns-2 c =
     let l = chosen .before in
     let t = first-put .before .turned3 in
     let u = second-put .before .turned4 in
-    let stored = two-stored (at l) 8 (wordBytes (t .result)) (wordBytes (u .result)) (s l) (first-put .put-word3 .last .0) (second-put .put-word4 .last .0) (length-wordBytes (t .result)) (first-put .put-word3 .ensures) (second-put .put-word4 .ensures) in
-    rw (chosen .match .keys2) (stored ∙ words-kept (s l) (at l) (start l .pre .1) 8 (one l 8 (t .result) (t .ensures)) (other l 8 (u .result) (u .ensures)) refl refl)
+    let stored =
+    two-stored (at l) 8 (wordBytes (t .result)) (wordBytes (u .result)) (s l) (first-put .put-word3 .last .0) (second-put .put-word4 .last .0)
+    (length-wordBytes (t .result)) (first-put .put-word3 .ensures) (second-put .put-word4 .ensures) in
+    rw (chosen .match .keys2)
+    (stored ∙ words-kept (s l) (at l) (start l .pre .1) 8 (one l 8 (t .result) (t .ensures)) (other l 8 (u .result) (u .ensures)) refl refl)
 
 same-length-3 : tie.Need-same-length-3
 same-length-3 c = search needs
@@ -131,8 +137,11 @@ returns-3 c =
     let l = chosen .before in
     let t = first-put .before .turned5 in
     let u = second-put .before .turned6 in
-    let stored = two-stored (at l) 8 (wordBytes (t .result)) (wordBytes (u .result)) (s l) (first-put .put-word5 .last .0) (second-put .put-word6 .last .0) (length-wordBytes (t .result)) (first-put .put-word5 .ensures) (second-put .put-word6 .ensures) in
-    rw (wide-other (start l .pre .0) (chosen .match .rest .0 .1) (chosen .match .rest .1)) (stored ∙ words-crossed (s l) (at l) (start l .pre .1) (one l 8 (u .result) (u .ensures)) (other l 8 (t .result) (t .ensures)))
+    let stored =
+    two-stored (at l) 8 (wordBytes (t .result)) (wordBytes (u .result)) (s l) (first-put .put-word5 .last .0) (second-put .put-word6 .last .0)
+    (length-wordBytes (t .result)) (first-put .put-word5 .ensures) (second-put .put-word6 .ensures) in
+    rw (wide-other (start l .pre .0) (chosen .match .rest .0 .1) (chosen .match .rest .1))
+    (stored ∙ words-crossed (s l) (at l) (start l .pre .1) (one l 8 (u .result) (u .ensures)) (other l 8 (t .result) (t .ensures)))
 
 pub turn-words-spec : {M : Type 1} → statement M
 turn-words-spec =

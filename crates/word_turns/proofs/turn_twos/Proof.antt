@@ -45,7 +45,8 @@ loop-again c =
     let v = test .before .loop in
     let start = test .before .before .before in
     let a = start .args in
-    left-next 2 (a .start) (a .count) (a .buf .now) (omega arith) 4 8 refl (a .start + a .count * 2) (v .left) (v .buf) (v .inv) (test .loop-test .taken)
+    left-next 2 (a .start) (a .count) (a .buf .now) (omega arith) 4 8 refl (a .start + a .count * 2)
+    (v .left) (v .buf) (v .inv) (test .loop-test .taken)
     (block .turn-twos .last .0) (block .turn-twos .kept .0) (block .turn-twos .ensures)
 
 sub-turn-units : tie.Need-sub-turn-units Inv-loop μ-loop
@@ -67,7 +68,8 @@ returns c =
     let v = rest .before .before .before .loop in
     let start = rest .before .before .before .before .before in
     let a = start .args in
-    left-rest 2 (a .start) (a .count) (a .buf .now) (omega arith) (a .start + a .count * 2) (v .left) (v .buf) (rest .turn-units .last .0) (v .inv) (rest .turn-units .ensures)
+    left-rest 2 (a .start) (a .count) (a .buf .now) (omega arith) (a .start + a .count * 2)
+    (v .left) (v .buf) (rest .turn-units .last .0) (v .inv) (rest .turn-units .ensures)
 
 pub turn-twos-spec : {M : Type 1} → statement M
 turn-twos-spec =

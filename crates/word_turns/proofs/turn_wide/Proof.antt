@@ -45,7 +45,8 @@ loop-again c =
     let v = test .before .loop in
     let start = test .before .before .before in
     let a = start .args in
-    left-next (a .unit) (a .start) (a .count) (a .buf .now) (wide-positive (start .pre .0)) (64 / a .unit) 64 (wide-fills (start .pre .0)) (a .start + a .count * a .unit) (v .left) (v .buf) (v .inv) (test .loop-test .taken)
+    left-next (a .unit) (a .start) (a .count) (a .buf .now) (wide-positive (start .pre .0)) (64 / a .unit) 64 (wide-fills (start .pre .0)) (a .start + a .count * a .unit)
+    (v .left) (v .buf) (v .inv) (test .loop-test .taken)
     (block .turn-wide .last .0) (block .turn-wide .kept .0) (block .turn-wide .ensures)
 
 sub-turn-units : tie.Need-sub-turn-units Inv-loop μ-loop
@@ -70,7 +71,8 @@ returns c =
     let v = rest .before .before .before .loop in
     let start = rest .before .before .before .before .before in
     let a = start .args in
-    left-rest (a .unit) (a .start) (a .count) (a .buf .now) (wide-positive (start .pre .0)) (a .start + a .count * a .unit) (v .left) (v .buf) (rest .turn-units .last .0) (v .inv) (rest .turn-units .ensures)
+    left-rest (a .unit) (a .start) (a .count) (a .buf .now) (wide-positive (start .pre .0)) (a .start + a .count * a .unit)
+    (v .left) (v .buf) (rest .turn-units .last .0) (v .inv) (rest .turn-units .ensures)
 
 pub turn-wide-spec : {M : Type 1} → statement M
 turn-wide-spec =
