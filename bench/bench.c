@@ -779,7 +779,8 @@ int main(void)
     fill();
     compare();
     printf("ns of one call (of one voxel where %d are located and of a turn, of one piece of 64 MiB), best of %d rounds (%d for "
-           "64 MiB, %d for a turn), buffers written first\n", VOXELS, SMALL_ROUNDS, LARGE_ROUNDS, TURN_ROUNDS);
+           "64 MiB, %d for 1 MiB, %d for a turn), buffers written first\n", VOXELS, SMALL_ROUNDS, LARGE_ROUNDS, CACHED_ROUNDS,
+           TURN_ROUNDS);
     printf("a ratio is the library's time over the other's\n");
     printf("%-15s %-26s %14s %9s %9s %9s %9s\n", "call", "input", "ns", "/memcpy", "/memmove", "/plain C", "/whole");
     static const int counts[4] = {0, 1, 8, 64};
