@@ -1,6 +1,6 @@
 -- `turn_twos` meets its contract: a word that is loaded, turned round and stored.
 use mathlib.Core.Path.{refl}
-use Rattle.words.specs.Words.{twos}
+use Rattle.words.specs.Words.{twos, fours, eight}
 use Rattle.word_blocks.proofs.Words.{word-turned}
 use borrow.Author.Needs.{needs}
 use Rattle.word_blocks.proofs.turn_twos.Statement.{statement}
@@ -10,7 +10,7 @@ word-at-requires : tie.Need-word-at-requires
 word-at-requires c κs = search needs
 
 turned-requires : tie.Need-turned-requires
-turned-requires c κs = twos
+turned-requires c κs = search (twos, fours, eight)
 
 put-word-requires : tie.Need-put-word-requires
 put-word-requires c κs = search needs
