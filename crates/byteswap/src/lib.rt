@@ -41,7 +41,7 @@ fn swap_shown(file: &mut [u8], image: &mut [u8], outline: Outline, engine: Engin
     }
 }
 
-// A refused file is left as it is, and so is its image file.
+// Swaps a file by either engine. A refused one is left as it is, and so is its image file.
 fn swap_by(file: &mut [u8], image: &mut [u8], engine: Engine) -> Verdict
     ensures { λ r. ⌜ Swaps (now (file .entry)) (now (image .entry)) r (now (file .exit)) (now (image .exit)) ⌝ }
 {
