@@ -1,5 +1,5 @@
 -- The theorems on the voxels of a file.
-mod Shown
 mod Indexes
+pub mod Shown
 pub mod Voxels
 pub mod Steps

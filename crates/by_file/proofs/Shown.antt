@@ -23,7 +23,8 @@ use Rattle.outline.specs.Outline.{outlineOf}
 use Rattle.outline.proofs.Outlines.{shows, shown-rows, shown-header}
 use Rattle.voxel.specs.declared.Located.the-variants.{At, Unlocated}
 use Rattle.voxel.specs.Voxel.{lengthsIn, bytesIn, locatedBy, locatedIn}
-use Rattle.voxel.specs.Steps.{Volume, extentBy}
+use Rattle.voxel.specs.declared.Volume.{Volume}
+use Rattle.voxel.specs.Steps.{extentBy}
 use Rattle.voxel.proofs.Sized.{volumeWith, passed-fields, located-16, located-17, located-at, located-small}
 
 -- the fields that an accepted file shows are its record's
@@ -32,7 +33,7 @@ module _ (s : List ℕ) (o : Outline) (e : outlineOf 0 s ≡ Shown o) where
   unfolding headerOf
   shown-kind = ap (λ (h : Header). h .kind) (shown-header s 0 o e)
 
-  shown-shape : shapeIn (o .layout .order) (o .layout .kind) s ≡ shapeOfRecord (readingOf s .header)
+  pub shown-shape : shapeIn (o .layout .order) (o .layout .kind) s ≡ shapeOfRecord (readingOf s .header)
   unfolding shapeIn headerOf
   shown-shape = ap shapeOfRecord (shown-header s 0 o e)
 

@@ -21,13 +21,17 @@ use Rattle.rules.proofs.Passed.{Fields, clear-fields}
 use Rattle.rules.proofs.Sizes.{shape-formed, shape-measured, measured-sizes}
 use Rattle.voxel.specs.declared.Located.the-variants.{At, Unlocated}
 use Rattle.voxel.specs.Voxel.{lengthsIn, bytesIn, imageRowsIn, extentIn, locatedBy, locatedIn}
-use Rattle.voxel.specs.Steps.{Volume, firstStep, extentBy, strays, noAxes, steppedBy, steppedIn}
+use Rattle.voxel.specs.declared.Volume.{Volume}
+use Rattle.voxel.specs.Steps.{firstStep, extentBy, strays, noAxes, steppedBy, steppedIn}
 use Rattle.voxel.proofs.Locating.{passed-located}
 use Rattle.voxel.proofs.Stepping.{stays, inside-stays, stepped-16, stepped-17, stepped-at, in-stepped}
 
--- a voxel has a byte at least
+-- a voxel has a byte at least, and 32 at most
 pub shape-some : (f : Shape) → Clear (shapeRows f) → 1 ≤ bytesIn f
 shape-some f c = let m = shape-formed f c in rw (m .bytes) (known-sound (f .datatype) (m .format) (m .known) .some)
+
+pub shape-most : (f : Shape) → Clear (shapeRows f) → bytesIn f ≤ 32
+shape-most f c = let m = shape-formed f c in rw (m .bytes) (known-sound (f .datatype) (m .format) (m .known) .most)
 
 -- what fields are located by, with some sizes
 abbrev pub volumeWith : Shape → Sizes → Volume
@@ -55,16 +59,16 @@ module _ (f : Shape) (c : Clear (shapeRows f)) (len : ℕ) (index : List ℕ) wh
   unfolding sizesBy
   before-is = steps-before (f .dim) n (bytesIn f) (measured .small .axes) index
 
-  length-is : firstStep v ≡ bytesIn f
+  pub first-length : firstStep v ≡ bytesIn f
   unfolding sizesBy stepsTo
-  length-is = first-step (f .dim) n (bytesIn f)
+  first-length = first-step (f .dim) n (bytesIn f)
 
   -- a voxel whose index is inside is one of the image
-  kept : within (lengthsIn f) index ≡ true → strays v index ≡ false
+  pub inside-kept : within (lengthsIn f) index ≡ true → strays v index ≡ false
   unfolding sizesBy
-  kept inside =
-      inside-stays (v .sizes .total) (bytesBefore (v .sizes .steps) index) (firstStep v) (rw length-is (shape-some f c)) (measured .small .small)
-      (rw (before-is, length-is) (voxel-inside (f .dim) n (bytesIn f) index inside))
+  inside-kept inside =
+      inside-stays (v .sizes .total) (bytesBefore (v .sizes .steps) index) (firstStep v) (rw first-length (shape-some f c)) (measured .small .small)
+      (rw (before-is, first-length) (voxel-inside (f .dim) n (bytesIn f) index inside))
 
   low : offsetOutside (f .kind) (wholeOf (f .«vox_offset»)) 0 ≡ false
   low = passed-fields f c .inside
@@ -81,8 +85,8 @@ module _ (f : Shape) (c : Clear (shapeRows f)) (len : ℕ) (index : List ℕ) wh
       by true u cut e = rw (passed-2 f c, low, cut)
       by false false cut e = rw (passed-2 f c, low, cut, e)
       by false true cut e =
-          rw (passed-2 f c, low, cut, e, kept e)
-          (λ i. At (record { place = wholeOf (f .«vox_offset») + before-is i; length = length-is i }))
+          rw (passed-2 f c, low, cut, e, inside-kept e)
+          (λ i. At (record { place = wholeOf (f .«vox_offset») + before-is i; length = first-length i }))
 
   -- rule by rule, for a caller that has judged 2, 5 to 10 by itself
   pub located-16 : imageCut (f .kind) len (imageOf f) ≡ true → Unlocated (refusal 16 0) ≡ locatedBy f len index
@@ -96,13 +100,13 @@ module _ (f : Shape) (c : Clear (shapeRows f)) (len : ℕ) (index : List ℕ) wh
 
     pub located-at : within (lengthsIn f) index ≡ true → At (extentBy v index) ≡ locatedBy f len index
     unfolding sizesBy
-    located-at inside = stepped-at v len index (passed-2 f c) low whole inside (kept inside) ∙ stepped-located
+    located-at inside = stepped-at v len index (passed-2 f c) low whole inside (inside-kept inside) ∙ stepped-located
 
   -- and its bytes are before the image's end
   pub located-small : within (lengthsIn f) index ≡ true → bytesBefore (v .sizes .steps) index ≤ imageLimit
   unfolding sizesBy
   located-small inside =
-      let k = stays (v .sizes .total) (bytesBefore (v .sizes .steps) index) (firstStep v) (kept inside) in
+      let k = stays (v .sizes .total) (bytesBefore (v .sizes .steps) index) (firstStep v) (inside-kept inside) in
       omega arith
 
   right-located : steppedBy (volumeWith f (sizesOf (f .dim) (f .datatype))) len index ≡ locatedBy f len index

@@ -1,13 +1,15 @@
 -- What the rules of a voxel by its record's sizes decide, rule by rule; and that a sum which is capped decides 26 as the sum itself does.
 use Prim.Native.Nat.{ℕ, _+_, _-_, _≤_, _<_}
 use mathlib.Core.Path.{_≡_, refl, ap, sym, _∙_}
-use mathlib.Core.Bool.{Bool, true, false, _||_}
-use mathlib.Core.List.{List}
+use mathlib.Core.Bool.{Bool, true, false, not, _||_}
+use mathlib.Core.List.{List, [], _∷_}
 use native.Mathlib.Omega.{arith}
 use borrow.Author.Tests.{ltb-true, ltb-false, lt-ltb, le-ltb}
 use lib.Dec.{ltb}
 use Rattle.refusal.specs.declared.Refusal.{Refusal}
-use Rattle.refusal.specs.Table.{refusal, verdict}
+use Rattle.refusal.specs.declared.Verdict.{Verdict}
+use Rattle.refusal.specs.declared.Verdict.the-variants as Verdicts
+use Rattle.refusal.specs.Table.{Row, row, refusal, verdict, decided}
 use Rattle.offset.specs.declared.Offset.{Offset}
 use Rattle.offset.specs.declared.Offset.the-variants.{Refused}
 use Rattle.offset.specs.Offset.{isWhole, wholeOf, offsetLimit, offsetOf, wholeIn}
@@ -18,8 +20,10 @@ use Rattle.header.specs.declared.Header.{Header}
 use Rattle.rules.specs.Rules.{axisCount, offsetOutside, imageCut}
 use Rattle.rules.proofs.Judging.{beyond}
 use Rattle.rules.proofs.Passed.{neither}
+use Rattle.voxel.specs.declared.Located.{Located}
 use Rattle.voxel.specs.declared.Located.the-variants.{At, Unlocated}
-use Rattle.voxel.specs.Steps.{Volume, volume, imageAt, extentBy, straysBy, strays, noAxes, volumeOf, steppedBy, unplacedBy, steppedIn}
+use Rattle.voxel.specs.declared.Volume.{Volume}
+use Rattle.voxel.specs.Steps.{volume, imageAt, extentBy, straysBy, strays, noAxes, volumeOf, misplacedBy, steppedBy, steppedIn}
 
 -- ---- 26
 
@@ -98,35 +102,65 @@ module _ (v : Volume) (len : ℕ) (index : List ℕ) where
           unfolding steppedBy verdict
           stepped-at kept = rw (some, low, whole, inside, kept)
 
--- ---- by a record
+-- ---- by a record: 8, which a volume cannot break, has its place between 2 and 9
 
-module _ (h : Header) (len : ℕ) (index : List ℕ) where
-  in-8 : isWhole (h .scale .«vox_offset») ≡ false → unplacedBy (h .dim) 8 ≡ steppedIn h len index
-  unfolding steppedIn verdict
-  in-8 part = by (noAxes (h .dim)) refl
+module _ (h : Header) (rest : List Row) where
+  abbrev ninth : Row
+  ninth = row 9 (offsetOutside (h .kind) (wholeOf (h .scale .«vox_offset»)) 0) 108
+
+  abbrev decides : Verdict
+  decides = verdict (row 2 (noAxes (h .dim)) 40 ∷ row 8 (not (isWhole (h .scale .«vox_offset»))) 108 ∷ ninth ∷ rest)
+
+  by-8 : isWhole (h .scale .«vox_offset») ≡ false → Verdicts.Refused (misplacedBy (h .dim) 8) ≡ decides
+  unfolding verdict
+  by-8 part = by (noAxes (h .dim)) refl
     where
-      by : (t : Bool) → noAxes (h .dim) ≡ t → unplacedBy (h .dim) 8 ≡ steppedIn h len index
+      by : (t : Bool) → noAxes (h .dim) ≡ t → Verdicts.Refused (misplacedBy (h .dim) 8) ≡ decides
       by true e = rw e
       by false e = rw (e, part)
 
   module _ (whole : isWhole (h .scale .«vox_offset») ≡ true) where
-    in-9 : offsetLimit < wholeOf (h .scale .«vox_offset») → unplacedBy (h .dim) 9 ≡ steppedIn h len index
-    unfolding steppedIn verdict
-    in-9 large = by (noAxes (h .dim)) refl
+    by-9 : offsetLimit < wholeOf (h .scale .«vox_offset») → Verdicts.Refused (misplacedBy (h .dim) 9) ≡ decides
+    unfolding verdict
+    by-9 large = by (noAxes (h .dim)) refl
       where
-        by : (t : Bool) → noAxes (h .dim) ≡ t → unplacedBy (h .dim) 9 ≡ steppedIn h len index
+        by : (t : Bool) → noAxes (h .dim) ≡ t → Verdicts.Refused (misplacedBy (h .dim) 9) ≡ decides
         by true e = rw e
         by false e = rw (e, whole, beyond (h .kind) (wholeOf (h .scale .«vox_offset»)) 0 large)
 
-    pub in-stepped : steppedBy (volumeOf h) len index ≡ steppedIn h len index
-    unfolding steppedIn steppedBy verdict
-    in-stepped = rw whole
+    pub whole-verdict : verdict (row 2 (noAxes (h .dim)) 40 ∷ ninth ∷ rest) ≡ decides
+    unfolding verdict
+    whole-verdict = rw whole
 
   -- rule 8 or 9, after 2, as the offset's reading refuses
-  pub in-refused : (r : Refusal) → offsetOf (h .scale .«vox_offset») ≡ Refused r → unplacedBy (h .dim) (r .number) ≡ steppedIn h len index
-  in-refused r e =
-      refused-by (h .scale .«vox_offset») r e (λ part q. ap (λ (x : Refusal). unplacedBy (h .dim) (x .number)) q ∙ in-8 part)
-      (λ whole large q. ap (λ (x : Refusal). unplacedBy (h .dim) (x .number)) q ∙ in-9 whole large)
+  pub misplaced-verdict : (r : Refusal) → offsetOf (h .scale .«vox_offset») ≡ Refused r
+      → Verdicts.Refused (misplacedBy (h .dim) (r .number)) ≡ decides
+  misplaced-verdict r e =
+      refused-by (h .scale .«vox_offset») r e
+      (λ part q. ap (λ (x : Refusal). Verdicts.Refused (misplacedBy (h .dim) (x .number))) q ∙ by-8 part)
+      (λ whole large q. ap (λ (x : Refusal). Verdicts.Refused (misplacedBy (h .dim) (x .number))) q ∙ by-9 whole large)
+
+module _ (h : Header) (len : ℕ) (index : List ℕ) where
+  -- what follows 9
+  abbrev rest : List Row
+  rest =
+      let v = volumeOf h in
+      row 16 (imageCut (v .kind) len (imageAt v)) 0
+      ∷ row 17 (not (within (sevenAxes (v .dim) (axisCount (v .dim))) index)) 0
+      ∷ row 26 (strays v index) 0
+      ∷ []
+
+  abbrev answered : Verdict → Located
+  answered v = decided v (At (extentBy (volumeOf h) index)) Unlocated
+
+  pub in-stepped : isWhole (h .scale .«vox_offset») ≡ true → steppedBy (volumeOf h) len index ≡ steppedIn h len index
+  unfolding steppedIn steppedBy
+  in-stepped whole = ap answered (whole-verdict h rest whole)
+
+  pub in-refused : (r : Refusal) → offsetOf (h .scale .«vox_offset») ≡ Refused r
+      → Unlocated (misplacedBy (h .dim) (r .number)) ≡ steppedIn h len index
+  unfolding steppedIn
+  in-refused r e = ap answered (misplaced-verdict h rest r e)
 
   -- and else the rest, by the whole number that it read
   pub in-whole : (o : Offset) → offsetOf (h .scale .«vox_offset») ≡ o → ((r : Refusal) → o ≡ Refused r → ⊥)

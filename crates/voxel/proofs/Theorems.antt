@@ -21,7 +21,8 @@ use Rattle.rules.proofs.Passed.{inside-limit}
 use Rattle.voxel.specs.declared.Extent.{Extent}
 use Rattle.voxel.specs.declared.Located.the-variants.{At, Unlocated}
 use Rattle.voxel.specs.Voxel.{lengthsOf, voxelBytes, imageRows}
-use Rattle.voxel.specs.Steps.{Volume, imageAt, firstStep, extentBy, noAxes, stepRows, volumeOf, recordStepRows, steppedBy, steppedIn}
+use Rattle.voxel.specs.declared.Volume.{Volume}
+use Rattle.voxel.specs.Steps.{imageAt, firstStep, extentBy, noAxes, stepRows, volumeOf, recordStepRows, steppedBy, steppedIn}
 use Rattle.voxel.proofs.Locating.{Found, unlocated-never}
 use Rattle.voxel.proofs.Stepping.{stays}
 

@@ -7,27 +7,22 @@ use mathlib.Core.List.{List, [], _∷_}
 use lib.Dec.{ltb}
 use lib.IntN.{ℤ}
 use lib.ListN.{getD}
+use Rattle.refusal.specs.declared.Refusal.{Refusal}
 use Rattle.refusal.specs.Table.{Row, row, refusal, verdict, decided}
 use Rattle.offset.specs.Offset.{isWhole, wholeOf}
 use Rattle.grid.specs.Grid.{within}
 use Rattle.grid.specs.Axes.{dimAt, imageLimit, sevenAxes}
-use Rattle.grid.specs.declared.Sizes.{Sizes}
 use Rattle.grid.specs.Sizes.{bytesBefore}
 use Rattle.header.specs.declared.Header.{Header}
 use Rattle.header.specs.declared.Kind.{Kind}
 use Rattle.rules.specs.declared.Image.{Image}
 use Rattle.rules.specs.Rules.{oneToSeven, axisCount, offsetOutside, imageCut}
+use Rattle.voxel.specs.declared.Volume.{Volume}
 use Rattle.voxel.specs.declared.Extent.{Extent}
 use Rattle.voxel.specs.declared.Located.{Located}
 use Rattle.voxel.specs.declared.Located.the-variants.{At, Unlocated}
 
--- what a voxel is located by: how the axes go, where the image is, and its sizes
-pub record Volume : Type 0 where
-  pub dim : List ℤ
-  pub offset : ℕ
-  pub sizes : Sizes
-  pub kind : Kind
-
+-- what a voxel is located by: how the axes go, where the image is, its sizes, and which file holds it
 abbrev pub volume : List ℤ → ℕ → ℕ → List ℕ → Kind → Volume
 volume dim offset total steps kind = record { dim = dim; offset = offset; sizes = record { total = total; steps = steps }; kind = kind }
 
@@ -83,5 +78,5 @@ steppedIn h len index = decided (verdict (recordStepRows h len index)) (At (exte
 -- ---- What only the steps between cite
 
 -- 2, or else a refusal of the voxel offset
-abbrev pub unplacedBy : List ℤ → ℕ → Located
-unplacedBy dim number = cond (noAxes dim) (Unlocated (refusal 2 40)) (Unlocated (refusal number 108))
+abbrev pub misplacedBy : List ℤ → ℕ → Refusal
+misplacedBy dim number = cond (noAxes dim) (refusal 2 40) (refusal number 108)

@@ -4,12 +4,21 @@ ghost use mathlib.Core.Path.{_≡_};
 ghost use mathlib.Core.List.{[], _∷_};
 ghost use Prim.Native.Nat.{_<_};
 ghost use lib.ListN.{length};
-ghost use Rattle.voxel.specs.Steps.{volume, straysBy, noAxes, steppedBy, unplacedBy, steppedIn};
+ghost use Rattle.voxel.specs.Steps.{volume, straysBy, noAxes, steppedBy, misplacedBy, steppedIn};
+use grid::Sizes;
 use header::Header;
 use header::Kind;
 use offset::Offset;
 use refusal::Refusal;
 use rules::Image;
+
+// What a voxel is located by: how the axes go, where the image is, its sizes, and which file holds it.
+pub struct Volume {
+    pub dim: [i16; 8],
+    pub offset: u64,
+    pub sizes: Sizes,
+    pub kind: Kind,
+}
 
 // A voxel's bytes: the place of the first, in the file that holds the image, and how many there are.
 pub struct Extent {
@@ -29,7 +38,7 @@ pub fn unlocated(number: u64, place: usize) -> Located
 }
 
 // Rule 2.
-fn no_axes(dim: &[i16]) -> bool
+pub fn no_axes(dim: &[i16]) -> bool
     requires { ⌜ 0 < length (now dim) ⌝ }
     ensures { λ r. ⌜ r ≡ noAxes (now (dim .entry)) ⌝ }
 {
@@ -38,7 +47,7 @@ fn no_axes(dim: &[i16]) -> bool
 }
 
 // 26: whether a voxel of `length` bytes from byte `start` of an image of `total` bytes on is none of it.
-fn strays(total: u64, start: u64, length: u64) -> bool
+pub fn strays(total: u64, start: u64, length: u64) -> bool
     ensures { λ r. ⌜ r ≡ straysBy total start length ⌝ }
 {
     if length < 1 {
@@ -97,14 +106,17 @@ pub fn locate_at<'a>(
 }
 
 // 2, or else a refusal of the voxel offset.
-fn unplaced(dim: &[i16], number: u64) -> Located
+pub fn misplaced(dim: &[i16], number: u64) -> Refusal
     requires { ⌜ 0 < length (now dim) ⌝ }
-    ensures { λ r. ⌜ r ≡ unplacedBy (now (dim .entry)) number ⌝ }
+    ensures { λ r. ⌜ r ≡ misplacedBy (now (dim .entry)) number ⌝ }
 {
     if no_axes(dim) {
-        return unlocated(2, 40);
+        return Refusal {
+            number: 2,
+            place: 40,
+        };
     }
-    unlocated(number, 108)
+    Refusal { number, place: 108 }
 }
 
 // The same by a record.
@@ -118,7 +130,7 @@ fn locate_record(header: Header, len: usize, index: [u64; 7]) -> Located
     let kind = header.kind;
     let offset = offset::decode(scale.vox_offset);
     match offset {
-        Offset::Refused(r) => unplaced(&dim, r.number),
+        Offset::Refused(r) => Located::Unlocated(misplaced(&dim, r.number)),
         _ => {
             let at = offset::whole_in(offset);
             locate_at(&dim, at, sizes.total, &steps, kind, len, &index)

@@ -23,7 +23,8 @@ use Rattle.reader.proofs.File.{accepted-record, accepted-sizes, record-image}
 use Rattle.reader.proofs.Theorems.{reading-number}
 use Rattle.voxel.specs.declared.Located.the-variants.{Unlocated}
 use Rattle.voxel.specs.Voxel.{bytesIn, locatedIn}
-use Rattle.voxel.specs.Steps.{Volume, steppedBy}
+use Rattle.voxel.specs.declared.Volume.{Volume}
+use Rattle.voxel.specs.Steps.{steppedBy}
 use Rattle.voxel.proofs.Sized.{volumeWith, stepped-located}
 use Rattle.by_file.specs.Files.{locatedOf}
 use Rattle.answers.specs.Answers.{voxelReply, isPair, shownFile, refusedFile, fileAnswer}

@@ -6,7 +6,8 @@ use mathlib.Core.List.{List}
 use lib.Dec.{eqb}
 use Rattle.header.specs.declared.Kind.{Kind}
 use Rattle.header.specs.declared.Kind.the-variants.{Single, Pair}
-use Rattle.voxel.specs.Steps.{Volume, volume, steppedBy}
+use Rattle.voxel.specs.declared.Volume.{Volume}
+use Rattle.voxel.specs.Steps.{volume, steppedBy}
 use Rattle.answers.specs.declared.Reply.{Reply}
 use Rattle.answers.specs.declared.FileAnswer.{FileAnswer}
 use Rattle.answers.specs.Answers.{voxelReply}

@@ -20,7 +20,7 @@ use Rattle.rules.specs.Rules.{axisCount, imageCut}
 use Rattle.layout.specs.File.{shapeIn}
 use Rattle.outline.proofs.Outlines.{shown-long, shown-measured}
 use Rattle.voxel.specs.declared.Located.the-variants.{At}
-use Rattle.voxel.specs.Steps.{Volume}
+use Rattle.voxel.specs.declared.Volume.{Volume}
 use Rattle.voxel.specs.Voxel.{lengthsIn}
 use Rattle.by_file.proofs.Shown.{fields, volume, shown-image, shown-16, shown-17, shown-at, shown-small, shown-low}
 use borrow.Author.Needs.{needs}

@@ -14,7 +14,8 @@ use Rattle.rules.specs.Rules.{axisCount, offsetOutside, imageCut}
 use Rattle.rules.proofs.Passed.{inside-limit}
 use Rattle.rules.proofs.Sizes.{axes-few}
 use Rattle.voxel.specs.declared.Located.the-variants.{At}
-use Rattle.voxel.specs.Steps.{Volume, volume, imageAt, firstStep, strays, noAxes}
+use Rattle.voxel.specs.declared.Volume.{Volume}
+use Rattle.voxel.specs.Steps.{volume, imageAt, firstStep, strays, noAxes}
 use Rattle.voxel.proofs.Stepping.{stays, strays-like, stepped-2, stepped-9, stepped-16, stepped-17, stepped-26, stepped-at}
 use Rattle.voxel.proofs.locate_at.Statement.{statement}
 use Rattle.voxel.proofs.locate_at.Tie as tie

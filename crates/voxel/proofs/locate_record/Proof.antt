@@ -3,6 +3,7 @@ use mathlib.Core.Path.{ap, sym, _∙_}
 use mathlib.Core.Logic.{⊎-elim}
 use Prim.Native.Nat.{ℕ}
 use native.Mathlib.Omega.{arith}
+use Rattle.voxel.specs.declared.Located.the-variants.{Unlocated}
 use Rattle.voxel.specs.Steps.{volume, steppedBy}
 use Rattle.voxel.proofs.Stepping.{in-refused, in-whole}
 use borrow.Author.Needs.{needs}
@@ -15,11 +16,11 @@ decode-requires c κs = search needs
 enum-known-offset : tie.Need-enum-known-offset
 enum-known-offset c = search needs
 
-slice-aggregate-unplaced : tie.Need-slice-aggregate-unplaced
-slice-aggregate-unplaced c = search needs
+slice-aggregate-misplaced : tie.Need-slice-aggregate-misplaced
+slice-aggregate-misplaced c = search needs
 
-unplaced-requires : tie.Need-unplaced-requires
-unplaced-requires c κs = search needs
+misplaced-requires : tie.Need-misplaced-requires
+misplaced-requires c κs = search needs
 
 whole-in-requires : tie.Need-whole-in-requires
 whole-in-requires c κs = search needs
@@ -41,7 +42,7 @@ returns c =
     let o = c .before .before .before in
     let d = o .before .before in
     let a = d .before .before .before .before .before .args in
-    c .unplaced .ensures ∙ in-refused (a .header) (a .len) (a .t3) (o .offset .given .0 .0) (sym (d .decode .ensures) ∙ o .offset .given .1)
+    ap Unlocated (c .misplaced .ensures) ∙ in-refused (a .header) (a .len) (a .t3) (o .offset .given .0 .0) (sym (d .decode .ensures) ∙ o .offset .given .1)
 
 returns-2 : tie.Need-returns-2
 returns-2 c =
@@ -60,8 +61,8 @@ locate-record-spec =
     (tie.spec
     decode-requires
     enum-known-offset
-    slice-aggregate-unplaced
-    unplaced-requires
+    slice-aggregate-misplaced
+    misplaced-requires
     whole-in-requires
     slice-aggregate-locate-at
     slice-aggregate-locate-at-2
