@@ -78,6 +78,7 @@ pub fn by_width(out: &mut [u8], at: usize, src: &[u8], from: usize, axis: Axis, 
         4 => one_by_one(out, at, src, from, axis, 4),
         8 => one_by_one(out, at, src, from, axis, 8),
         16 => one_by_one(out, at, src, from, axis, 16),
+        32 => one_by_one(out, at, src, from, axis, 32),
         64 => one_by_one(out, at, src, from, axis, 64),
         _ => one_by_one(out, at, src, from, axis, b),
     }

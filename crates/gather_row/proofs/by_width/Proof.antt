@@ -25,7 +25,10 @@ one-by-one-requires-7 : tie.Need-one-by-one-requires-7
 one-by-one-requires-7 c κs = rw (c .before .match .keys7) at (c .before .before .before .before .pre)
 
 one-by-one-requires-8 : tie.Need-one-by-one-requires-8
-one-by-one-requires-8 c κs = search needs
+one-by-one-requires-8 c κs = rw (c .before .match .keys8) at (c .before .before .before .before .pre)
+
+one-by-one-requires-9 : tie.Need-one-by-one-requires-9
+one-by-one-requires-9 c κs = search needs
 
 same-length : tie.Need-same-length
 same-length c = search needs
@@ -73,7 +76,13 @@ same-length-8 : tie.Need-same-length-8
 same-length-8 c = search needs
 
 returns-8 : tie.Need-returns-8
-returns-8 c = search needs
+returns-8 c = rw (c .before .before .before .before .match .keys8) (c .before .before .one-by-one8 .ensures)
+
+same-length-9 : tie.Need-same-length-9
+same-length-9 c = search needs
+
+returns-9 : tie.Need-returns-9
+returns-9 c = search needs
 
 pub by-width-spec : {M : Type 1} → statement M
 by-width-spec =
@@ -87,6 +96,7 @@ by-width-spec =
     one-by-one-requires-6
     one-by-one-requires-7
     one-by-one-requires-8
+    one-by-one-requires-9
     same-length
     returns
     same-length-2
@@ -102,4 +112,6 @@ by-width-spec =
     same-length-7
     returns-7
     same-length-8
-    returns-8)
+    returns-8
+    same-length-9
+    returns-9)
