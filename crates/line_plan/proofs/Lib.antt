@@ -1,0 +1,3 @@
+-- Where the voxels of a line are.
+mod Judging
+pub mod Places
