@@ -1,0 +1,2 @@
+-- What the engines copy.
+mod Engines
