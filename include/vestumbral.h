@@ -15,13 +15,13 @@
  * What the caller owes:
  *   - Each pointer points to at least as many bytes as the length after it says, and nothing else writes them during the call.
  *     NULL with length 0 is an empty buffer.
- *   - Where a call writes (both swaps, append, replace, remove, turn), what it writes overlaps nothing else that it is given: not `file`
- *     and `image`, not `buffer` and `payload`, not `out` or `out_image` and any other buffer of the call.
+ *   - Where a call writes (both lines, both swaps, append, replace, remove, turn), what it writes overlaps nothing else that it is
+ *     given: not `file` and `image`, not `buffer` and `payload`, not `out` or `out_image` and any other buffer of the call.
  *   - vestumbral_slice_at, vestumbral_position_of and, of a file whose sform_code is above 0, vestumbral_turn compute in binary32
  *     and are called in the default floating-point state: round to nearest, no exception trapped, neither flush-to-zero nor
  *     denormals-are-zero (a program linked with -ffast-math starts with both). In another state a time, a position or a turned srow
  *     number may be another number, and so may what hangs on it: a slice's state and refusal 23. Read, extension_at, voxel,
- *     voxel_in, both swaps, the edits, the calls for pieces and any other turn do not depend on that state.
+ *     voxel_in, both lines, both swaps, the edits, the calls for pieces and any other turn do not depend on that state.
  *   - The stack has room: a turn takes some 72 KiB of it, every other call less than 8.
  *
  * The refusals. They are tried in the order of their numbers, but 24 and 25 before anything else by the calls that give them, and
@@ -47,7 +47,8 @@
  *   14  an extension's code is negative                                                         its start + 4
  *   15  a 65th extension would begin                                                            its start
  *   16  pair: image file shorter than vox_offset + image bytes                                  0
- *   17  a voxel or slice index outside its axis                                                 0
+ *   17  a voxel or slice index outside its axis; of a line also an axis number that is not in
+ *       1..dim[0]                                                                               0
  *   18  no extension with that number; the first is 0                                           0
  *   19  the code offered is negative                                                            0
  *   20  append where the extender's first byte is zero and bytes already follow 352 in the
@@ -82,11 +83,12 @@
 extern "C" {
 #endif
 
-/* The answer of voxel, voxel_in, swap, swap_by_unit, append, replace and remove. */
+/* The answer of voxel, voxel_in, line, line_by_voxel, swap, swap_by_unit, append, replace and remove. */
 typedef struct {
     uint64_t refusal;     /* 0: done; else a number of the table */
     uint64_t place;       /* of a refusal its place; of a voxel its place; else 0 */
-    uint64_t length;      /* of a voxel its bytes; of an edit the new file length; else 0, and 0 in every refusal */
+    uint64_t length;      /* of a voxel its bytes; of a line the bytes written; of an edit the new file length; else 0, and 0 in
+                           * every refusal */
     uint64_t aligned;     /* of an edit 1 where the new file's vox_offset is a multiple of 16, which a single file's always is; else 0 */
 } vestumbral_reply;
 
@@ -176,6 +178,24 @@ vestumbral_reply vestumbral_voxel(const uint8_t *file, size_t file_len, const ui
  */
 vestumbral_reply vestumbral_voxel_in(vestumbral_file file, uint64_t image_len,
                                      uint64_t i1, uint64_t i2, uint64_t i3, uint64_t i4, uint64_t i5, uint64_t i6, uint64_t i7);
+
+/*
+ * Copies out a line: all voxels along axis `axis`, one of 1..dim[0], through the voxel with these seven indexes, to the front of
+ * `out`. They come in the order of their index on that axis, from 0 to dim[axis] - 1, whichever of them the seven name; the index
+ * on that axis is judged all the same. `length` answers the bytes written, dim[axis] x bitpix / 8. `file`, `image` and bytes past
+ * the line stay.
+ *
+ * Refusals 1..15, 16 for a pair, 17, then 22: `out` is shorter than the line.
+ */
+vestumbral_reply vestumbral_line(const uint8_t *file, size_t file_len, const uint8_t *image, size_t image_len, uint64_t axis,
+                                 uint64_t i1, uint64_t i2, uint64_t i3, uint64_t i4, uint64_t i5, uint64_t i6, uint64_t i7,
+                                 uint8_t *out, size_t out_len);
+
+/* The same answers and bytes as vestumbral_line on any input, refused or not; each voxel is located by itself, which is slower. */
+vestumbral_reply vestumbral_line_by_voxel(const uint8_t *file, size_t file_len, const uint8_t *image, size_t image_len,
+                                          uint64_t axis,
+                                          uint64_t i1, uint64_t i2, uint64_t i3, uint64_t i4, uint64_t i5, uint64_t i6, uint64_t i7,
+                                          uint8_t *out, size_t out_len);
 
 /*
  * When slice `slice` of the slice axis was acquired. Refusals 1..15, then 17, which is given only where timing is stated; where it

@@ -25,6 +25,8 @@ use Rattle.timing.specs.declared.Slice.{Slice}
 use Rattle.timing.specs.declared.Slice.the-variants as slice
 use Rattle.position.specs.declared.Positioned.{Positioned}
 use Rattle.position.specs.declared.Positioned.the-variants as position
+use Rattle.line_copy.specs.declared.Lined.{Lined}
+use Rattle.line_copy.specs.declared.Lined.the-variants as lined
 use Rattle.edit.specs.declared.Edited.{Edited}
 use Rattle.edit.specs.declared.Edited.the-variants.{Done, Denied}
 use Rattle.answers.specs.declared.Reply.{Reply}
@@ -46,6 +48,11 @@ voxelReply (Unlocated r) = refusedReply r
 abbrev pub swapReply : Verdict → Reply
 swapReply Accepted = record { refusal = 0; place = 0; length = 0; aligned = 0 }
 swapReply (Refused r) = refusedReply r
+
+-- the bytes of a line
+abbrev pub lineReply : Lined → Reply
+lineReply (lined.Copied n) = record { refusal = 0; place = 0; length = n; aligned = 0 }
+lineReply (lined.Refused r) = refusedReply r
 
 -- whether an offset is aligned: 1, and 0 where it is not
 abbrev pub isAligned : Bool → ℕ

@@ -4,12 +4,13 @@
 ghost use mathlib.Core.Path.{_≡_};
 ghost use Rattle.reader.specs.Reading.{readingOf};
 ghost use Rattle.outline.specs.Outline.{outlineOf};
-ghost use Rattle.answers.specs.Answers.{refusedReply, voxelReply, swapReply, editReply, bigEndian, isPair, isAligned};
-ghost use Rattle.answers.specs.Answers.{refusedFile, fileAnswer, refusedExtension, extensionShown, sliceAnswer};
+ghost use Rattle.answers.specs.Answers.{refusedReply, voxelReply, swapReply, lineReply, editReply, bigEndian};
+ghost use Rattle.answers.specs.Answers.{isPair, isAligned, refusedFile, fileAnswer, refusedExtension, extensionShown, sliceAnswer};
 ghost use Rattle.answers.specs.Answers.{positionAnswer};
 use edit::Edited;
 use field::Order;
 use header::Kind;
+use line_copy::Lined;
 use outline::Outline;
 use outline::Outlined;
 use position::Positioned;
@@ -18,7 +19,7 @@ use refusal::Verdict;
 use timing::Slice;
 use voxel::Located;
 
-// The answer of voxel, swap and edit; `aligned` is said by an edit alone.
+// The answer of voxel, swap, edit and line; `aligned` is said by an edit alone.
 #[repr(C)]
 pub struct Reply {
     pub refusal: u64,
@@ -270,6 +271,20 @@ pub fn swap_reply(verdict: Verdict) -> Reply
             aligned: 0,
         },
         Verdict::Refused(r) => refused_reply(r),
+    }
+}
+
+pub fn line_reply(lined: Lined) -> Reply
+    ensures { λ a. ⌜ a ≡ lineReply lined ⌝ }
+{
+    match lined {
+        Lined::Copied(length) => Reply {
+            refusal: 0,
+            place: 0,
+            length: length as u64,
+            aligned: 0,
+        },
+        Lined::Refused(r) => refused_reply(r),
     }
 }
 

@@ -11,7 +11,8 @@ ghost use Rattle.slice_position.specs.Files.{sliceOf, positionAt};
 ghost use Rattle.byteswap.specs.Swap.{swapAnswer, swappedFile, swappedImage};
 ghost use Rattle.change.specs.declared.Change.the-variants.{Append, Replace, Remove};
 ghost use Rattle.edit.specs.Outcome.{outcomeOf, editAnswer, bufferAfter};
-ghost use Rattle.answers.specs.Answers.{voxelReply, swapReply, editReply, fileAnswer, extensionAnswer, sliceAnswer};
+ghost use Rattle.line.specs.Lines.{lineAnswer, lineOut};
+ghost use Rattle.answers.specs.Answers.{voxelReply, swapReply, lineReply, editReply, fileAnswer, extensionAnswer, sliceAnswer};
 ghost use Rattle.answers.specs.Answers.{positionAnswer};
 ghost use Rattle.voxel_answers.specs.Answers.{voxelIn};
 ghost use Rattle.pieces.specs.Pieces.{fresh, takenOf};
@@ -139,6 +140,56 @@ pub extern "C" fn vestumbral_swap_by_unit(file: &mut [u8], image: &mut [u8]) -> 
 {
     let verdict = byteswap::swap_by_unit(file, image);
     answers::swap_reply(verdict)
+}
+
+// Copies the voxels along an axis through a voxel into the front of a lent buffer: 1 to 15, 16 for a pair, 17, then 22.
+#[no_mangle]
+pub extern "C" fn vestumbral_line(
+    file: &[u8],
+    image: &[u8],
+    axis: u64,
+    i1: u64,
+    i2: u64,
+    i3: u64,
+    i4: u64,
+    i5: u64,
+    i6: u64,
+    i7: u64,
+    out: &mut [u8],
+) -> Reply
+    ensures { λ a.
+        ⌜ (a ≡ lineReply (lineAnswer (now (file .entry)) (now (image .entry)) axis
+        (i1 ∷ i2 ∷ i3 ∷ i4 ∷ i5 ∷ i6 ∷ i7 ∷ []) (length (now (out .entry)))))
+        × (now (out .exit) ≡ lineOut (now (file .entry)) (now (image .entry)) axis
+        (i1 ∷ i2 ∷ i3 ∷ i4 ∷ i5 ∷ i6 ∷ i7 ∷ []) (now (out .entry))) ⌝ }
+{
+    let lined = line::line(file, image, axis, i1, i2, i3, i4, i5, i6, i7, out);
+    answers::line_reply(lined)
+}
+
+// The same answers and bytes as vestumbral_line, each voxel located by itself.
+#[no_mangle]
+pub extern "C" fn vestumbral_line_by_voxel(
+    file: &[u8],
+    image: &[u8],
+    axis: u64,
+    i1: u64,
+    i2: u64,
+    i3: u64,
+    i4: u64,
+    i5: u64,
+    i6: u64,
+    i7: u64,
+    out: &mut [u8],
+) -> Reply
+    ensures { λ a.
+        ⌜ (a ≡ lineReply (lineAnswer (now (file .entry)) (now (image .entry)) axis
+        (i1 ∷ i2 ∷ i3 ∷ i4 ∷ i5 ∷ i6 ∷ i7 ∷ []) (length (now (out .entry)))))
+        × (now (out .exit) ≡ lineOut (now (file .entry)) (now (image .entry)) axis
+        (i1 ∷ i2 ∷ i3 ∷ i4 ∷ i5 ∷ i6 ∷ i7 ∷ []) (now (out .entry))) ⌝ }
+{
+    let lined = line::line_by_voxel(file, image, axis, i1, i2, i3, i4, i5, i6, i7, out);
+    answers::line_reply(lined)
 }
 
 // Turns a volume into the fronts of two lent buffers, of which the second is for a pair's image file: 1 to 15, 16 for a pair,
