@@ -159,6 +159,10 @@ static void too_short(uint8_t *bytes, size_t length)
     REFUSED(position, 1, 0);
     CHECK(float_bits(position.x) == 0 && float_bits(position.y) == 0 && float_bits(position.z) == 0);
     CHECK(refused(vestumbral_voxel(bytes, length, NULL, 0, 0, 0, 0, 0, 0, 0, 0), 1));
+    CHECK(refused(vestumbral_line(bytes, length, NULL, 0, 1, 0, 0, 0, 0, 0, 0, 0, NULL, 0), 1));
+    CHECK(refused(vestumbral_line(bytes, length, bytes, length, UINT64_MAX, UINT64_MAX, 0, 0, 0, 0, 0, 0, NULL, 0), 1));
+    CHECK(refused(vestumbral_line_by_voxel(bytes, length, NULL, 0, 1, 0, 0, 0, 0, 0, 0, 0, NULL, 0), 1));
+    CHECK(refused(vestumbral_line_by_voxel(bytes, length, bytes, length, UINT64_MAX, UINT64_MAX, 0, 0, 0, 0, 0, 0, NULL, 0), 1));
     CHECK(refused(vestumbral_swap(bytes, length, NULL, 0), 1));
     CHECK(refused(vestumbral_swap_by_unit(bytes, length, NULL, 0), 1));
     CHECK(refused(vestumbral_append(bytes, length, length, 0, NULL, 0), 1));
@@ -447,6 +451,132 @@ static void wrong_steps(void)
     CHECK(done(voxel_in(file, 0, 0, 1), 1099511628126, 2) && refused(voxel_in(file, 0, 1, 1), 26));
     file.step[1] = 1099511627775;
     CHECK(refused(voxel_in(file, 0, 0, 1), 26) && done(voxel_in(file, 0, 2, 0), 356, 2));
+}
+
+typedef vestumbral_reply line_call(const uint8_t *, size_t, const uint8_t *, size_t, uint64_t, uint64_t, uint64_t, uint64_t,
+                                   uint64_t, uint64_t, uint64_t, uint64_t, uint8_t *, size_t);
+
+/*
+ * The lines of A, whose voxels are 1 to 12 by twos: at exact fits, with bytes to spare, one byte short and with no buffer. The file
+ * ends with its last voxel.
+ */
+static void lines(enum source source, line_call *line)
+{
+    static const uint8_t rows[2][6] = {{1, 2, 3, 4, 5, 6}, {7, 8, 9, 10, 11, 12}};
+    static const uint8_t columns[3][4] = {{1, 2, 7, 8}, {3, 4, 9, 10}, {5, 6, 11, 12}};
+    static const uint64_t no_axes[] = {0, 3, 4, 5, 6, 7, 8, 257, 65537, 4294967297, 4294967298, UINT64_MAX - 1, UINT64_MAX};
+    static const uint64_t past[] = {1, 4294967296, UINT64_MAX / 2 + 1, UINT64_MAX - 3};
+    uint8_t *a = take(source, 364), *row = take(source, 6), *column = take(source, 4), before[364];
+    file_a(before);
+    memcpy(a, before, 364);
+    memset(row, 0xaa, 6);
+    CHECK(refused(line(a, 364, NULL, 0, 1, 0, 0, 0, 0, 0, 0, 0, NULL, 0), 22));
+    CHECK(refused(line(a, 364, NULL, 0, 1, 0, 0, 0, 0, 0, 0, 0, row, 0), 22));
+    CHECK(refused(line(a, 364, NULL, 0, 1, 0, 0, 0, 0, 0, 0, 0, row, 5), 22));
+    CHECK(refused(line(a, 364, NULL, 0, 2, 0, 0, 0, 0, 0, 0, 0, row, 3), 22));
+    for (size_t i = 0; i < sizeof no_axes / sizeof *no_axes; i++) {
+        CHECK(refused(line(a, 364, NULL, 0, no_axes[i], 0, 0, 0, 0, 0, 0, 0, row, 6), 17));
+        CHECK(refused(line(a, 364, NULL, 0, no_axes[i], 0, 0, 0, 0, 0, 0, 0, NULL, 0), 17));
+        CHECK(refused(line(a, 364, NULL, 0, no_axes[i], 3, 0, 0, 0, 0, 0, 0, row, 6), 17));
+    }
+    for (uint64_t axis = 1; axis <= 2; axis++)
+        for (int k = 0; k < 7; k++)
+            for (size_t p = 0; p < sizeof past / sizeof *past; p++) {
+                uint64_t i[7] = {2, 1};
+                i[k] += past[p];
+                CHECK(refused(line(a, 364, NULL, 0, axis, i[0], i[1], i[2], i[3], i[4], i[5], i[6], row, 6), 17));
+                CHECK(refused(line(a, 364, NULL, 0, axis, i[0], i[1], i[2], i[3], i[4], i[5], i[6], NULL, 0), 17));
+            }
+    CHECK(all(row, 0xaa, 6));
+    for (uint64_t i = 0; i < 3; i++)
+        for (uint64_t j = 0; j < 2; j++) {
+            memset(row, 0xaa, 6);
+            memset(column, 0xaa, 4);
+            CHECK(done(line(a, 364, NULL, 0, 1, i, j, 0, 0, 0, 0, 0, row, 6), 0, 6) && memcmp(row, rows[j], 6) == 0);
+            CHECK(done(line(a, 364, NULL, 0, 2, i, j, 0, 0, 0, 0, 0, column, 4), 0, 4) && memcmp(column, columns[i], 4) == 0);
+            memset(row, 0xaa, 6);
+            CHECK(done(line(a, 364, column, 1, 2, i, j, 0, 0, 0, 0, 0, row, 6), 0, 4));
+            CHECK(memcmp(row, columns[i], 4) == 0 && all(row + 4, 0xaa, 2));
+        }
+    CHECK(memcmp(a, before, 364) == 0);
+    memset(row, 0xaa, 6);
+    vestumbral_reply cut = line(a, 363, NULL, 0, UINT64_MAX, 3, 0, 0, 0, 0, 0, 0, row, 6);
+    CHECK(cut.refusal == 11 && cut.place == 108 && cut.length == 0 && cut.aligned == 0 && all(row, 0xaa, 6));
+    put16(a + 46, 5); /* dim[3], which is not judged */
+    CHECK(refused(line(a, 364, NULL, 0, 3, 0, 0, 0, 0, 0, 0, 0, row, 6), 17));
+    CHECK(refused(line(a, 364, NULL, 0, 1, 0, 0, 1, 0, 0, 0, 0, row, 6), 17) && all(row, 0xaa, 6));
+    give_back(source, a, 364);
+    give_back(source, row, 6);
+    give_back(source, column, 4);
+}
+
+/*
+ * Each line of 2 x 3 x 4 voxels through each of its voxels, for each width that a voxel has: of a pair with five bytes before its
+ * image, in memory of exactly its length; one byte less of the image file or of the buffer is refused.
+ */
+static void lines_of_each_width(enum source source, line_call *line)
+{
+    static const int types[][2] = {{2, 8}, {4, 16}, {128, 24}, {16, 32}, {64, 64}, {1536, 128}, {2048, 256}};
+    static const size_t dims[3] = {2, 3, 4}, steps[3] = {1, 2, 6};
+    for (size_t t = 0; t < sizeof types / sizeof *types; t++) {
+        const size_t width = types[t][1] / 8, length = 5 + 24 * width;
+        uint8_t *pair = take(source, 348), *image = take(source, length), before[5 + 24 * 32], header_before[348];
+        header(pair, 1, (const int[]){3, 2, 3, 4}, types[t][0], types[t][1], 0x40a00000);
+        for (size_t i = 0; i < length; i++)
+            image[i] = i * 7 + i / 256;
+        memcpy(before, image, length);
+        memcpy(header_before, pair, 348);
+        for (uint64_t axis = 1; axis <= 3; axis++) {
+            const size_t count = dims[axis - 1], step = steps[axis - 1], bytes = count * width;
+            uint8_t *out = take(source, bytes);
+            for (uint64_t v = 0; v < 24; v++) {
+                const uint64_t i = v % 2, j = v / 2 % 3, k = v / 6, first = v - v / step % count * step;
+                memset(out, 0xaa, bytes);
+                CHECK(refused(line(pair, 348, image, length, axis, i, j, k, 0, 0, 0, 0, out, bytes - 1), 22));
+                CHECK(refused(line(pair, 348, image, length - 1, axis, i, j, k, 0, 0, 0, 0, out, bytes), 16));
+                CHECK(refused(line(pair, 348, NULL, 0, axis, i, j, k, 0, 0, 0, 0, out, bytes), 16) && all(out, 0xaa, bytes));
+                CHECK(done(line(pair, 348, image, length, axis, i, j, k, 0, 0, 0, 0, out, bytes), 0, bytes));
+                unsigned wrong = 0;
+                for (size_t n = 0; n < count; n++)
+                    wrong += memcmp(out + n * width, before + 5 + width * (first + n * step), width) != 0;
+                CHECK(wrong == 0);
+            }
+            CHECK(refused(line(pair, 348, image, length - 1, UINT64_MAX, 0, 0, 0, 0, 0, 0, 0, NULL, 0), 16));
+            CHECK(refused(line(pair, 348, image, length - 1, axis, 2, 3, 4, 0, 0, 0, 0, out, bytes), 16));
+            give_back(source, out, bytes);
+        }
+        CHECK(memcmp(image, before, length) == 0 && memcmp(pair, header_before, 348) == 0);
+        give_back(source, pair, 348);
+        give_back(source, image, length);
+    }
+}
+
+/* Lines of the longest image: a refusal looks at none of it, and the last line ends with it. */
+static void longest_line(line_call *line)
+{
+    const size_t longest = 1099511627776;
+    uint8_t *image = mmap(NULL, longest, PROT_NONE, MAP_PRIVATE | MAP_ANONYMOUS | MAP_NORESERVE, -1, 0);
+    uint8_t file[348], out[16384];
+    if (image == MAP_FAILED) {
+        puts("boundary: no address space");
+        exit(2);
+    }
+    header(file, 1, (const int[]){3, 16384, 16384, 4096}, 2, 8, 0);
+    memset(out, 0xaa, sizeof out);
+    CHECK(refused(line(file, 348, image, longest - 1, 3, 0, 0, 0, 0, 0, 0, 0, out, sizeof out), 16));
+    CHECK(refused(line(file, 348, image, longest, 4, 0, 0, 0, 0, 0, 0, 0, out, sizeof out), 17));
+    CHECK(refused(line(file, 348, image, longest, UINT64_MAX, 0, 0, 0, 0, 0, 0, 0, out, sizeof out), 17));
+    CHECK(refused(line(file, 348, image, longest, 3, 0, 0, 4096, 0, 0, 0, 0, out, sizeof out), 17));
+    CHECK(refused(line(file, 348, image, longest, 3, 0, 0, 0, 0, 0, 0, 0, out, 4095), 22));
+    CHECK(refused(line(file, 348, image, longest, 1, 0, 0, 0, 0, 0, 0, 0, out, 16383), 22) && all(out, 0xaa, sizeof out));
+    if (mprotect(image, longest, PROT_READ) != 0) {
+        puts("boundary: no memory to read");
+        exit(2);
+    }
+    CHECK(done(line(file, 348, image, longest, 3, 16383, 16383, 0, 0, 0, 0, 0, out, sizeof out), 0, 4096));
+    CHECK(all(out, 0, 4096) && all(out + 4096, 0xaa, sizeof out - 4096));
+    CHECK(done(line(file, 348, image, longest, 1, 0, 16383, 4095, 0, 0, 0, 0, out, sizeof out), 0, 16384) && all(out, 0, 16384));
+    munmap(image, longest);
 }
 
 /* Payloads of 0, 8 and 9 bytes at exact fits, and one byte short of them. */
@@ -983,6 +1113,8 @@ int main(void)
     records();
     wrong_steps();
     total();
+    longest_line(vestumbral_line);
+    longest_line(vestumbral_line_by_voxel);
     longest_turn();
     for (enum source source = HEAP; source <= FENCE_BEFORE; source++) {
         uint8_t *byte = take(source, 1);
@@ -993,6 +1125,10 @@ int main(void)
         reading(source);
         offsets(source);
         steps(source);
+        lines(source, vestumbral_line);
+        lines(source, vestumbral_line_by_voxel);
+        lines_of_each_width(source, vestumbral_line);
+        lines_of_each_width(source, vestumbral_line_by_voxel);
         payloads(source);
         edits(source);
         pair_edits(source);

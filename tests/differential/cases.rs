@@ -4,6 +4,8 @@
 use crate::extender_cases::{self, EXTENDERS};
 use crate::files::{extension, Header, EXTENSIONS, NO_EXTENSIONS, OFFSET_352};
 use crate::library::STATE_WORDS;
+use crate::line::Line;
+use crate::line_cases;
 use crate::memory::Where;
 use crate::record::Asked;
 use crate::record_cases;
@@ -67,6 +69,8 @@ pub enum Call {
     ExtensionAt { number: u64 },
     Voxel { index: [u64; 7] },
     VoxelIn(Asked),
+    Line(Line),
+    LineByVoxel(Line),
     SliceAt { slice: u64 },
     PositionOf { index: [u64; 3] },
     Swap,
@@ -144,7 +148,7 @@ pub struct Case {
     pub other: Other,
     pub main_at: Where,
     pub other_at: Where,
-    /// The two buffers that a turn fills.
+    /// The two buffers that a turn fills, or first the one that a line does.
     pub rooms: [Other; 2],
     pub rooms_at: [Where; 2],
     pub feeding: Feeding,
@@ -426,7 +430,7 @@ fn number(random: &mut Random, bound: u64) -> u64 {
 }
 
 /// Indexes for the first axes; in one case of four one is outside its axis.
-fn indexes<const N: usize>(random: &mut Random, known: Option<&Known>) -> [u64; N] {
+pub fn indexes<const N: usize>(random: &mut Random, known: Option<&Known>) -> [u64; N] {
     let lengths: [u64; N] = std::array::from_fn(|i| known.map_or(3, |known| known.axis(i + 1)));
     let mut index = lengths.map(|length| inside(random, length));
     if random.once_in(4) {
@@ -596,7 +600,7 @@ fn other_bytes<'a>(other: &'a Other, zeros: &'a [u8]) -> &'a [u8] {
 }
 
 impl Case {
-    /// How long the buffers are that a turn fills.
+    /// How long the buffers are that a turn or a line fills.
     pub fn room(&self) -> [u64; 2] {
         [0, 1].map(|i: usize| self.rooms[i].length() as u64)
     }
@@ -622,13 +626,13 @@ impl Case {
     /// The case of this number.
     pub fn new(seed: u64, number_of_case: u64, zeros: &[u8]) -> Case {
         let random = &mut Random::new(seed, number_of_case);
-        let call = random.below(28);
-        if call > 24 {
+        let call = random.below(31);
+        if call > 27 {
             return record_cases::case(record_cases::any(random));
         }
         let file = match call {
             2 | 16..=19 => extended_file(random),
-            20.. => turn_cases::file(random),
+            20..=24 => turn_cases::file(random),
             _ => file(random),
         };
         let known = rules::read(&file).ok();
@@ -646,7 +650,8 @@ impl Case {
             13..=15 => append(random, file, zeros),
             16..=18 => replace(random, file, known, zeros),
             20.. => {
-                let (call, other, filled) = turn_cases::any(random, &file, known);
+                let any = if call < 25 { turn_cases::any } else { line_cases::any };
+                let (call, other, filled) = any(random, &file, known);
                 rooms = filled;
                 (call, file, other)
             }
@@ -691,23 +696,25 @@ fn slice(random: &mut Random, file: &[u8], known: Option<&Known>) -> u64 {
 }
 
 /// The cases that hang on no seed, and come first.
-pub const FIXED: u64 = LARGE + CUT + TALL + swap_cases::FIXED + record_cases::FIXED + extender_cases::FIXED + turn_cases::FIXED;
+pub const FIXED: u64 = LINES + line_cases::FIXED + record_cases::FIXED + extender_cases::FIXED + turn_cases::FIXED;
 
 /// The cases at 2^27 and 2^40, which take up to half a gigabyte while they run; the files that are cut at every place; those that
 /// are fed up to 2^41 bytes.
-pub const LARGE: u64 = 22;
+pub const LARGE: u64 = 27;
 const CUT: u64 = 22;
 const TALL: u64 = 13;
 
-/// The first case of each number of units, among those that hang on no seed.
+/// The first case of each number of units, and the first line, among those that hang on no seed.
 pub const SWAPS: u64 = LARGE + CUT + TALL;
+pub const LINES: u64 = SWAPS + swap_cases::FIXED;
 
 pub fn fixed(number: u64) -> Case {
-    let groups: [(u64, fn(u64) -> Case); 7] = [
+    let groups: [(u64, fn(u64) -> Case); 8] = [
         (LARGE, large),
         (CUT, |number| Case::fed(cut_everywhere(number), Feeding::EveryCut)),
         (TALL, |number| Case::fed(tall(number), Feeding::ToTotal)),
         (swap_cases::FIXED, swap_cases::fixed),
+        (line_cases::FIXED, line_cases::fixed),
         (record_cases::FIXED, record_cases::fixed),
         (extender_cases::FIXED, extender_cases::fixed),
         (turn_cases::FIXED, turn_cases::fixed),
@@ -841,6 +848,9 @@ fn large(number: u64) -> Case {
     };
     let last = [16383, 16383, 4095, 0, 0, 0, 0];
     let pair_image = (rules::IMAGE_LIMIT + REGION_LIMIT) as usize;
+    let line = |axis, index, main, other, room| {
+        Case::filling(Call::Line(Line { axis, index }), main, other, [Other::Own(vec![0x77; room]), none()])
+    };
     match number {
         0 => Case::at(Call::Read, long_pair(REGION_LIMIT), none()),
         1 => Case::at(Call::Read, long_pair(REGION_LIMIT + 1), none()),
@@ -863,6 +873,11 @@ fn large(number: u64) -> Case {
         18 => Case::at(Call::Append { file_len: 364, code: 6 }, a(full as usize - 16), Other::Zeros(most - 16)),
         19 => Case::at(Call::Append { file_len: 352, code: 6 }, long_pair(REGION_LIMIT), Other::Zeros(most)),
         20 => Case::at(Call::Append { file_len: 348, code: 6 }, long_pair(REGION_LIMIT), Other::Zeros(most + 1)),
-        _ => Case::at(Call::Swap, long_pair(348), none()),
+        21 => Case::at(Call::Swap, long_pair(348), none()),
+        22 => line(1, last, long_pair(348), Other::Zeros(pair_image), 16384),
+        23 => line(3, last, long_pair(348), Other::Zeros(pair_image), 4097),
+        24 => line(3, last, long_pair(348), Other::Zeros(pair_image), 4095),
+        25 => line(3, last, long_pair(348), Other::Zeros(pair_image - 1), 4096),
+        _ => line(2, [2, 0, 0, 0, 0, 0, 0], single_at_limit(Order::Big), none(), 4),
     }
 }

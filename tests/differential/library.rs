@@ -1,4 +1,4 @@
-//! The library's fifteen calls as include/vestumbral.h declares them, and their answers. Nothing checks these declarations but the
+//! The library's eighteen calls as include/vestumbral.h declares them, and their answers. Nothing checks these declarations but the
 //! comparison itself, so they are kept beside one another and in the header's order.
 
 use std::fmt;
@@ -127,6 +127,38 @@ extern "C" {
         i5: u64,
         i6: u64,
         i7: u64,
+    ) -> Reply;
+    pub fn vestumbral_line(
+        file: *const u8,
+        file_len: usize,
+        image: *const u8,
+        image_len: usize,
+        axis: u64,
+        i1: u64,
+        i2: u64,
+        i3: u64,
+        i4: u64,
+        i5: u64,
+        i6: u64,
+        i7: u64,
+        out: *mut u8,
+        out_len: usize,
+    ) -> Reply;
+    pub fn vestumbral_line_by_voxel(
+        file: *const u8,
+        file_len: usize,
+        image: *const u8,
+        image_len: usize,
+        axis: u64,
+        i1: u64,
+        i2: u64,
+        i3: u64,
+        i4: u64,
+        i5: u64,
+        i6: u64,
+        i7: u64,
+        out: *mut u8,
+        out_len: usize,
     ) -> Reply;
     pub fn vestumbral_slice_at(file: *const u8, file_len: usize, slice: u64) -> SliceAnswer;
     pub fn vestumbral_position_of(file: *const u8, file_len: usize, i: u64, j: u64, k: u64) -> PositionAnswer;

@@ -1,20 +1,23 @@
 //! Compares the library, called through its C interface, with the rules of 01-scope.md and 02-change-requests.md written a second
-//! time in rules.rs, turn.rs and record.rs: the whole answer, the whole of every lent buffer, and the bytes beside it. A file that
-//! is read is fed in pieces too, a voxel is located by the record of its file too, what is swapped is swapped unit by unit too, what a
-//! call that writes leaves is read again,
-//! what an edit's reply says of the new offset is held to that reading, a turn that is not refused is held to the laws of turns,
-//! and a file whose extender is one of the base's is held to the base's rule.
+//! time in rules.rs, line.rs, turn.rs and record.rs: the whole answer, the whole of every lent buffer, and the bytes beside it. A
+//! file that is read is fed in pieces too, a voxel is located by the record of its file too, a line is copied voxel by voxel too,
+//! what is swapped is swapped unit by unit too, what a call that writes leaves is read again, what an edit's reply says of the new
+//! offset is held to that reading, a turn that is not refused is held to the laws of turns, and a file whose extender is one of the
+//! base's is held to the base's rule.
 //!
 //!     differential [--cases N] [--seed S] [--only CASE] [--self-check]
 //!
-//! It fails on any difference, and where a refusal that a call can give was never reached, two of a turn or of voxel_in never held
-//! together, voxel_in never met a border of its rules, or a call was never done with some kind of extender.
+//! It fails on any difference, and where a refusal that a call can give was never reached, two of a line, of a turn or of voxel_in
+//! never held together, a line or voxel_in never met a border of its rules, or a call was never done with some kind of extender.
 
 mod cases;
 mod extender_cases;
 mod extenders;
 mod files;
 mod library;
+mod line;
+mod line_cases;
+mod lines;
 mod memory;
 mod pieces;
 mod record;
@@ -23,26 +26,29 @@ mod records;
 mod rules;
 mod self_check;
 mod swap_cases;
+mod together;
 mod turn;
 mod turn_cases;
 mod turn_laws;
 mod wrong_alignment;
 mod wrong_extenders;
+mod wrong_lines;
 mod wrong_steps;
 mod wrong_swaps;
 mod wrong_turns;
 
 use cases::{Call, Case, Feeding, Other, Piece};
 use library::*;
+use line::Line;
 use memory::{Area, Lent, Tall, Where};
 use record::Asked;
 use rules::{Edit, Extender, Known, Order, Refusal, Slice, Span, RESERVED};
-use std::collections::BTreeMap;
 use std::sync::atomic::Ordering;
+use together::Together;
 use turn::Turn;
 use turn_laws::{Both, Engine, Tried};
 
-/// What a call leaves behind: its answer and the content of the two buffers, and of the two that a turn fills.
+/// What a call leaves behind: its answer and the content of the two buffers, and of the two that a turn or a line fills.
 #[derive(PartialEq)]
 struct Outcome {
     answer: Answer,
@@ -51,7 +57,7 @@ struct Outcome {
     rooms: [Vec<u8>; 2],
 }
 
-/// The reply of a voxel, of a swap, and of any refusal: what an edit says of its new file is in none of them.
+/// The reply of a voxel, of a line, of a swap, and of any refusal: what an edit says of its new file is in none of them.
 fn reply(done: Result<(u64, u64), Refusal>) -> Answer {
     Answer::Reply(match done {
         Ok((place, length)) => Reply { place, length, ..Reply::default() },
@@ -145,6 +151,13 @@ fn by_rules(extender: &Extender, case: &Case, zeros: &[u8]) -> Outcome {
         }
         Call::Voxel { index } => kept(reply(rules::voxel(main, other.len() as u64, index))),
         Call::VoxelIn(asked) => kept(reply(asked.voxel())),
+        Call::Line(line) | Call::LineByVoxel(line) => match line::line(main, other, &line, case.room()[0]) {
+            Ok(bytes) => {
+                let [out, unused] = [0, 1].map(|i: usize| case.rooms[i].own());
+                Outcome { rooms: [over(out, &bytes), unused.to_vec()], ..kept(reply(Ok((0, bytes.len() as u64)))) }
+            }
+            Err(no) => kept(reply(Err(no))),
+        },
         Call::SliceAt { slice } => kept(slice_answer(main, slice)),
         Call::PositionOf { index } => kept(position_answer(main, index)),
         Call::Swap | Call::SwapByUnit => match rules::swap(main, other) {
@@ -211,6 +224,14 @@ unsafe fn call(call: Call, (main, length): Buffer, (other, other_len): Buffer, r
             Answer::Reply(vestumbral_voxel(main, length, other, other_len, a, b, c, d, e, f, g))
         }
         Call::VoxelIn(asked) => by_record(&asked),
+        Call::Line(Line { axis, index: [a, b, c, d, e, f, g] }) => {
+            let (out, out_len) = rooms[0];
+            Answer::Reply(vestumbral_line(main, length, other, other_len, axis, a, b, c, d, e, f, g, out, out_len))
+        }
+        Call::LineByVoxel(Line { axis, index: [a, b, c, d, e, f, g] }) => {
+            let (out, out_len) = rooms[0];
+            Answer::Reply(vestumbral_line_by_voxel(main, length, other, other_len, axis, a, b, c, d, e, f, g, out, out_len))
+        }
         Call::SliceAt { slice } => Answer::Slice(vestumbral_slice_at(main, length, slice)),
         Call::PositionOf { index: [i, j, k] } => Answer::Position(vestumbral_position_of(main, length, i, j, k)),
         Call::Swap => Answer::Reply(vestumbral_swap(main, length, other, other_len)),
@@ -253,11 +274,7 @@ fn turn_difference(case: &Case, counts: &mut Counts) -> Option<String> {
     };
     let turn = Turn::named(axes, reverse);
     let faults = turn::faults(&case.main, case.other.length() as u64, &turn, case.room());
-    for (i, first) in faults.iter().enumerate() {
-        for second in &faults[i + 1..] {
-            *counts.together.entry((first.number, second.number)).or_default() += 1;
-        }
-    }
+    counts.together.count(&faults);
     if !faults.is_empty() {
         return None;
     }
@@ -274,11 +291,18 @@ fn buffer_difference(name: &str, rules: &[u8], library: &[u8], guards_kept: bool
     (!guards_kept).then(|| format!("{name}: bytes beside it were changed"))
 }
 
-/// How the library differs from the rules. What is swapped is swapped unit by unit too.
+/// How the library differs from the rules. What is swapped is swapped unit by unit too, and a line is copied voxel by voxel too.
 fn compare(case: &Case, memory: &mut Memory, counts: &mut Counts) -> Option<String> {
-    let by_unit = Case { call: Call::SwapByUnit, ..case.clone() };
-    let calls = if case.call == Call::Swap { vec![case, &by_unit] } else { vec![case] };
-    calls.into_iter().find_map(|case| call_difference(case, memory, counts))
+    let plain = match case.call {
+        Call::Swap => Some(Call::SwapByUnit),
+        Call::Line(line) => Some(Call::LineByVoxel(line)),
+        _ => None,
+    };
+    let plain = plain.map(|call| Case { call, ..case.clone() });
+    std::iter::once(case).chain(&plain).find_map(|case| {
+        let difference = call_difference(case, memory, counts)?;
+        Some(format!("by {}: {difference}", CALLS[call_number(&case.call)]))
+    })
 }
 
 /// How one call differs.
@@ -292,6 +316,7 @@ fn call_difference(case: &Case, memory: &mut Memory, counts: &mut Counts) -> Opt
     let answer = unsafe { call(case.call, (main.pointer, main.length), other, [out_buffer, out_image_buffer]) };
     counts.add(call_number(&case.call), expected.answer.refusal());
     counts.extenders.count(case, expected.answer.refusal());
+    counts.lines.count(case);
     if answer != expected.answer {
         return Some(format!("\n  rules   {:?}\n  library {:?}", expected.answer, answer));
     }
@@ -337,7 +362,7 @@ fn show(case: &Case) -> String {
         content(&case.other),
         case.feeding
     );
-    if matches!(case.call, Call::Turn { .. }) {
+    if matches!(case.call, Call::Turn { .. } | Call::Line(_)) {
         let [out, out_image] = &case.rooms;
         text += &format!("\n  out {:?}: {}\n  out_image: {}", case.rooms_at, content(out), content(out_image));
     }
@@ -386,15 +411,17 @@ fn reduce(case: &Case, memory: &mut Memory) -> Case {
     least
 }
 
-const CALLS: [&str; 15] = [
+const CALLS: [&str; 17] = [
     "read", "extension", "voxel", "slice", "position", "swap", "append", "replace", "remove", "take", "pieces", "pieces_ext",
-    "turn", "voxel_in", "by_unit",
+    "turn", "voxel_in", "by_unit", "line", "by_voxel",
 ];
 const PIECES_TAKE: usize = 9;
 const PIECES_FILE: usize = 10;
 const PIECES_EXTENSION: usize = 11;
 const VOXEL_IN: usize = 13;
 const SWAP_BY_UNIT: usize = 14;
+const LINE: usize = 15;
+const LINE_BY_VOXEL: usize = 16;
 
 /// The refusals that each call can give.
 fn possible(call: usize) -> Vec<usize> {
@@ -403,6 +430,7 @@ fn possible(call: usize) -> Vec<usize> {
         "extension" | "pieces_ext" => &[18],
         "voxel" => &[16, 17],
         "voxel_in" => &[16, 17, 26],
+        "line" | "by_voxel" => &[16, 17, 22],
         "slice" => &[17],
         "position" => &[17, 23],
         "swap" | "by_unit" => &[16],
@@ -429,6 +457,8 @@ fn call_number(call: &Call) -> usize {
         Call::Turn { .. } => 12,
         Call::VoxelIn(_) => VOXEL_IN,
         Call::SwapByUnit => SWAP_BY_UNIT,
+        Call::Line(_) => LINE,
+        Call::LineByVoxel(_) => LINE_BY_VOXEL,
     }
 }
 
@@ -439,12 +469,13 @@ const REFUSALS: usize = 30;
 struct Counts {
     /// How often each refusal, 0 for done, was given by each call.
     given: [[u64; REFUSALS + 1]; CALLS.len()],
-    /// How often two refusals of a turn held together, the one that is tried first before the other.
-    together: BTreeMap<(u64, u64), u64>,
+    /// Two refusals of a turn.
+    together: Together,
     /// How often the laws of a turn were tried.
     tried: Tried,
     extenders: extenders::Reached,
     records: records::Reached,
+    lines: lines::Reached,
 }
 
 /// The refusals of a turn that may hold together: of two the one that is tried first, and the other.
@@ -470,13 +501,12 @@ impl Counts {
             let by_call = self.given.map(|row| format!("{:>11}", row[number])).concat();
             println!("{name:>9} {:>10}           {by_call}", self.given.iter().map(|row| row[number]).sum::<u64>());
         }
-        let pairs: Vec<String> =
-            self.together.iter().map(|((first, second), count)| format!("{first} {second}: {count}")).collect();
-        println!("two refusals of a turn, the first given: {}", pairs.join(", "));
+        self.together.print("turn");
         let Tried { back, composed, swapped } = self.tried;
         println!("laws of a turn: {back} turned back, {composed} composed, {swapped} swapped");
         self.extenders.print();
         self.records.print();
+        self.lines.print();
     }
 
     /// Which refusals were never reached, alone or before another, which laws were never tried, and which extenders and borders
@@ -486,14 +516,12 @@ impl Counts {
         let given = all
             .filter(|&(call, number)| self.given[call][number] == 0)
             .map(|(call, number)| format!("{number} by {}", CALLS[call]));
-        let together = conflicts()
-            .into_iter()
-            .filter(|pair| !self.together.contains_key(pair))
-            .map(|(first, second)| format!("{first} before {second} by turn"));
+        let together = self.together.missing("turn", conflicts());
         let Tried { back, composed, swapped } = self.tried;
         let laws = [(back, "a turn back"), (composed, "a composed turn"), (swapped, "a turn and a swap")];
         let tried = laws.into_iter().filter(|law| law.0 == 0).map(|law| law.1.to_string());
-        given.chain(together).chain(tried).chain(self.extenders.missing()).chain(self.records.missing()).collect()
+        let others = [self.extenders.missing(), self.records.missing(), self.lines.missing()].concat();
+        given.chain(together).chain(tried).chain(others).collect()
     }
 }
 

@@ -5,13 +5,14 @@
 use crate::cases::{self, Call, Case, Other};
 use crate::files::{extension, file_a, Header, EXTENSIONS, NO_EXTENSIONS, OFFSET_352};
 use crate::library::{Answer, FileAnswer, Reply};
+use crate::line::{self, Line};
 use crate::pieces::twin;
 use crate::record::Asked;
 use crate::rules::*;
 use crate::turn::{came_from, faults, reversed_row, turn, Turn};
 use crate::turn_laws::{broken, Both, Engine, Tried};
-use crate::{by_rules, case, extender_cases, file_answer, memory, record_cases, turn_cases};
-use crate::{swap_cases, wrong_alignment, wrong_extenders, wrong_steps, wrong_swaps, wrong_turns};
+use crate::{by_rules, case, extender_cases, file_answer, line_cases, memory, record_cases, turn_cases};
+use crate::{swap_cases, wrong_alignment, wrong_extenders, wrong_lines, wrong_steps, wrong_swaps, wrong_turns};
 use std::fmt::Debug;
 
 #[derive(Default)]
@@ -265,6 +266,70 @@ fn voxels_by_record(checks: &mut Checks) {
     for number in 0..record_cases::FAULTY {
         let (asked, holds) = record_cases::faulty(number);
         checks.equal("which refusals hold together", asked.faults().map(|fault| fault.is_some()), holds);
+    }
+}
+
+/// A line through voxel (i, j, k).
+fn through(axis: u64, [i, j, k]: [u64; 3]) -> Line {
+    Line { axis, index: [i, j, k, 0, 0, 0, 0] }
+}
+
+/// Lines of file A, whose voxels hold 0 to 5, and of the volume below as a pair, with what is refused first (02-change-requests.md,
+/// P7).
+fn lines(checks: &mut Checks) {
+    let a = file_a();
+    let of_a = |axis, voxel, room| line::line(&a, &[], &through(axis, voxel), room);
+    for i in 0..3 {
+        checks.equal("row 0 of A", of_a(1, [i, 0, 0], 6), Ok(vec![0, 0, 1, 0, 2, 0]));
+        checks.equal("row 1 of A", of_a(1, [i, 1, 0], 99), Ok(vec![3, 0, 4, 0, 5, 0]));
+    }
+    for j in 0..2 {
+        checks.equal("column 0 of A", of_a(2, [0, j, 0], 4), Ok(vec![0, 0, 3, 0]));
+        checks.equal("column 2 of A", of_a(2, [2, j, 0], 5), Ok(vec![2, 0, 5, 0]));
+    }
+    for axis in [0, 3, 4, 7, 8, 257, 65_537, 4_294_967_297, 9_223_372_036_854_775_809, u64::MAX] {
+        checks.refused("no axis of A", of_a(axis, [0; 3], 99), 17, 0);
+    }
+    for voxel in [[3, 0, 0], [0, 2, 0], [0, 0, 1], [u64::MAX, 0, 0], [0, 4_294_967_296, 0]] {
+        checks.refused("no voxel of A, along axis 1", of_a(1, voxel, 99), 17, 0);
+        checks.refused("no voxel of A, along axis 2", of_a(2, voxel, 99), 17, 0);
+    }
+    checks.refused("row, one byte short", of_a(1, [0; 3], 5), 22, 0);
+    checks.refused("column, one byte short", of_a(2, [0; 3], 3), 22, 0);
+    checks.refused("no byte", of_a(2, [0; 3], 0), 22, 0);
+    checks.refused("17 before 22", of_a(1, [3, 0, 0], 0), 17, 0);
+    checks.refused("17 by the axis before 22", of_a(3, [0; 3], 0), 17, 0);
+    checks.refused("11 before these", line::line(&a[..363], &[], &through(3, [3, 0, 0]), 0), 11, 108);
+
+    let room = [Other::Own(vec![0xee; 9]), Other::Own(vec![0xdd; 2])];
+    for call in [Call::Line(through(1, [2, 1, 0])), Call::LineByVoxel(through(1, [0, 1, 0]))] {
+        let left = by_rules(&RESERVED, &Case::filling(call, a.clone(), Other::none(), room.clone()), &[]);
+        checks.equal("its answer", left.answer, Answer::Reply(Reply { length: 6, ..Reply::default() }));
+        checks.equal("its buffer", left.rooms, [vec![3, 0, 4, 0, 5, 0, 0xee, 0xee, 0xee], vec![0xdd; 2]]);
+        checks.equal("its file", (left.main, left.other), (a.clone(), Vec::new()));
+    }
+    let left = by_rules(&RESERVED, &Case::filling(Call::Line(through(1, [3, 1, 0])), a.clone(), Other::none(), room), &[]);
+    checks.equal("a refusal", left.answer, Answer::Reply(Reply { refusal: 17, ..Reply::default() }));
+    checks.equal("its buffer", left.rooms[0].clone(), vec![0xee; 9]);
+
+    let (pair, image) = (volume(BIG, true).bytes, [b"at3", &VOXELS[..], b"tail"].concat());
+    let of_pair = |axis, voxel, length: usize, room| line::line(&pair, &image[..length], &through(axis, voxel), room);
+    checks.equal("along axis 1", of_pair(1, [2, 1, 1], 15, 3), Ok(vec![11, 111, 211]));
+    checks.equal("along axis 2", of_pair(2, [2, 0, 0], 15, 2), Ok(vec![200, 210]));
+    checks.equal("along axis 3", of_pair(3, [1, 1, 0], 19, 2), Ok(vec![110, 111]));
+    checks.refused("image file one short", of_pair(1, [0; 3], 14, 3), 16, 0);
+    checks.refused("16 before 17", of_pair(1, [3, 0, 0], 14, 3), 16, 0);
+    checks.refused("16 before 17 by the axis", of_pair(4, [0; 3], 14, 3), 16, 0);
+    checks.refused("16 before 22", of_pair(1, [0; 3], 0, 0), 16, 0);
+    checks.refused("reading first", line::line(&pair[..347], &[], &through(0, [3, 0, 0]), 0), 1, 0);
+    checks.refused("with its place", line::line(&changed(pair, 344, b"nil\0"), &[], &through(0, [0; 3]), 0), 4, 344);
+    for number in 0..line_cases::TOGETHER {
+        let (case, holds) = line_cases::together(number);
+        let Call::Line(line) = case.call else {
+            continue;
+        };
+        let faults = line::faults(&case.main, case.other.length() as u64, &line, case.room()[0]);
+        checks.equal("which refusals hold together", faults.iter().map(|no| no.number).collect::<Vec<_>>(), holds);
     }
 }
 
@@ -771,6 +836,18 @@ fn wrong_swaps(checks: &mut Checks) {
     }
 }
 
+/// The wrong lines on cases of the comparison: on those made for them, and on random ones alone.
+fn wrong_lines(checks: &mut Checks) {
+    let zeros = memory::zeros(cases::ZEROS);
+    let fixed = cases::LINES..cases::LINES + line_cases::FIXED;
+    let random = cases::FIXED..cases::FIXED + 20_000;
+    for numbers in [fixed, random] {
+        for (name, count) in wrong_lines::noticed(numbers.map(|number| case(1, number, zeros))) {
+            checks.holds(name, count > 0);
+        }
+    }
+}
+
 /// The wrong alignments on cases of the comparison: on those made for them, and on random ones alone.
 fn wrong_alignment(checks: &mut Checks) {
     let zeros = memory::zeros(cases::ZEROS);
@@ -786,8 +863,9 @@ fn wrong_alignment(checks: &mut Checks) {
 
 /// Laws on random files: bytes that a state may not keep change nothing that is read, a voxel by the record is that by the file, a
 /// swap twice restores, an edit's result is accepted and keeps every voxel, every step and whether the offset is aligned, removing
-/// the extension just appended restores the file but for a first extender byte above 1, the voxels' ranges fill the image, and the
-/// reserved bytes change nothing but themselves.
+/// the extension just appended restores the file but for a first extender byte above 1, the voxels' ranges fill the image, the
+/// lines along the first axis are the image, a line is the same through each of its voxels, and the reserved bytes change nothing
+/// but themselves.
 fn laws(checks: &mut Checks) {
     let mut accepted = 0;
     for number in 0..2000 {
@@ -812,6 +890,7 @@ fn laws(checks: &mut Checks) {
         checks.holds("a swap twice restores", swap(&other, &other_image) == Ok((file.clone(), image.clone())));
         reserved_law(checks, file, &image, &other);
         checks.holds("the voxels fill the image", voxels_fill(&known, file, &image));
+        line_law(checks, &known, file, number);
         let buffer = [file.clone(), vec![0; 64]].concat();
         let Ok((whole, length)) = edit(&buffer, file.len() as u64, &Edit::Append { code: 4, payload: b"a note of 18 bytes" })
         else {
@@ -870,15 +949,41 @@ fn reserved_law(checks: &mut Checks, file: &[u8], image: &[u8], swapped: &[u8]) 
     }
 }
 
+/// The lines along the first axis, one after the other, and a line through each of its voxels.
+fn line_law(checks: &mut Checks, known: &Known, file: &[u8], number: u64) {
+    let end = (known.offset + known.image_bytes) as usize;
+    let image = cases::Random::new(9, number).bytes(end);
+    let along = |axis, index| line::line(file, &image, &Line { axis, index }, known.image_bytes);
+    let voxels = known.image_bytes / known.voxel_bytes();
+    let holder = if known.pair { &image } else { file };
+    let lines = (0..voxels).step_by(known.axis(1) as usize).map(|number| along(1, index_of(known, number)).unwrap());
+    checks.holds("the lines are the image", lines.collect::<Vec<_>>().concat() == holder[known.offset as usize..end]);
+    let index = index_of(known, number * 7919 % voxels);
+    let (place, bytes) = voxel(file, end as u64, index).unwrap();
+    for axis in 1..=known.axes() {
+        let line = Line { axis: axis as u64, index };
+        let through = |number| along(line.axis, line.through(number).index).unwrap();
+        let first = through(0);
+        checks.holds("a line through each of its voxels", (1..known.axis(axis)).all(|number| through(number) == first));
+        let own = first.chunks_exact(bytes as usize).nth(index[axis - 1] as usize);
+        checks.holds("the voxel is in its line", own == Some(&holder[place as usize..(place + bytes) as usize]));
+    }
+}
+
+/// The indexes of the voxel with this number, the first varying fastest.
+fn index_of(known: &Known, number: u64) -> [u64; 7] {
+    let mut rest = number;
+    std::array::from_fn(|i| {
+        let here = rest % known.axis(i + 1);
+        rest /= known.axis(i + 1);
+        here
+    })
+}
+
 fn voxels_fill(known: &Known, file: &[u8], image: &[u8]) -> bool {
     let voxels = known.image_bytes / known.voxel_bytes();
     (0..voxels).all(|number| {
-        let mut rest = number;
-        let index = std::array::from_fn(|i| {
-            let here = rest % known.axis(i + 1);
-            rest /= known.axis(i + 1);
-            here
-        });
+        let index = index_of(known, number);
         voxel(file, image.len() as u64, index) == Ok((known.offset + number * known.voxel_bytes(), known.voxel_bytes()))
     })
 }
@@ -886,10 +991,10 @@ fn voxels_fill(known: &Known, file: &[u8], image: &[u8]) -> bool {
 pub fn run() {
     let mut checks = Checks::default();
     let values = [
-        file_a_numbers, offsets, alignment, images, steps_read, voxels_by_record, headers, reserved_bytes, extensions, pieces,
-        slices, positions, swaps, edits, turns,
+        file_a_numbers, offsets, alignment, images, steps_read, voxels_by_record, lines, headers, reserved_bytes, extensions,
+        pieces, slices, positions, swaps, edits, turns,
     ];
-    let wrong = [wrong_extenders, wrong_steps, wrong_swaps, wrong_alignment];
+    let wrong = [wrong_extenders, wrong_steps, wrong_swaps, wrong_lines, wrong_alignment];
     for part in values.into_iter().chain([laws as fn(&mut Checks), turn_laws]).chain(wrong) {
         part(&mut checks);
     }

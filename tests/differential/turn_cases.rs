@@ -50,7 +50,7 @@ fn flag(random: &mut Random) -> u64 {
 }
 
 /// A buffer for a result of so many bytes: it fits exactly or by some bytes, or it does not fit.
-fn room(random: &mut Random, needed: usize) -> Other {
+pub fn room(random: &mut Random, needed: usize) -> Other {
     let (more, fewer) = (needed + 1 + random.size(60), random.size(needed));
     let too_few = random.pick(&[needed.saturating_sub(1), needed.saturating_sub(1), fewer, 0]);
     let length = random.pick(&[needed, needed, needed, more, more, too_few]);

@@ -1,10 +1,10 @@
 /*
  * The calls in floating-point states that are not the default: each rounding mode, with flush-to-zero and denormals-are-zero, and
- * with every exception trapped. There read, extension_at, voxel, voxel_in, both swaps, the edits, the calls for pieces and a turn without
- * sform answer as in the default state, leave the same bytes in every lent buffer, and do not touch the state: their only float is
- * the vox_offset of an edit, a multiple of 16 up to 2^27, which no state rounds. Slice times, positions and the srow numbers of a
- * turn are computed in the state, so the header asks for the default; the lines that are printed show what another makes of one of
- * each.
+ * with every exception trapped. There read, extension_at, voxel, voxel_in, both lines, both swaps, the edits, the calls for pieces
+ * and a turn without sform answer as in the default state, leave the same bytes in every lent buffer, and do not touch the state:
+ * their only float is the vox_offset of an edit, a multiple of 16 up to 2^27, which no state rounds. Slice times, positions and the
+ * srow numbers of a turn are computed in the state, so the header asks for the default; what is printed shows what another makes of
+ * one of each.
  */
 #include "../nifti.h"
 #include "vestumbral.h"
@@ -161,6 +161,37 @@ static void offsets(void)
         }
 }
 
+/* A line that is copied out, or of an axis that the file has not, and its buffer. */
+static void copied(const char *call, vestumbral_reply line, int has_axis)
+{
+    if ((line.refusal == 0) != has_axis)
+        fail(has_axis ? "a line is refused" : "a line of no axis is not refused");
+    tell(call, &line, sizeof line);
+    tell(call, out, sizeof out);
+    memset(out, 0xa5, sizeof out);
+}
+
+/* The lines through each voxel of both kinds in both orders, along axes 0 to 3 of 3 x 2 voxels. */
+static void lines(void)
+{
+    memset(out, 0xa5, sizeof out);
+    for (int kind = 0; kind < 4; kind++) {
+        size_t length = start(kind & 1, kind & 1 ? 0 : 0x43b00000);
+        if (kind & 2)
+            vestumbral_swap(buffer, length, image, sizeof image);
+        for (uint64_t axis = 0; axis < 4; axis++)
+            for (uint64_t voxel = 0; voxel < 6; voxel++) {
+                const uint64_t i = voxel % 3, j = voxel / 3;
+                const int has_axis = axis == 1 || axis == 2;
+                vestumbral_reply line;
+                line = vestumbral_line(buffer, length, image, sizeof image, axis, i, j, 0, 0, 0, 0, 0, out, VOXELS);
+                copied("line", line, has_axis);
+                line = vestumbral_line_by_voxel(buffer, length, image, sizeof image, axis, i, j, 0, 0, 0, 0, 0, out, VOXELS);
+                copied("line by voxel", line, has_axis);
+            }
+    }
+}
+
 /* Every turn of both kinds in both orders, as 3 x 2 x 1 voxels; sform_code is not above 0, and the srow numbers are moved alone. */
 static void turns(void)
 {
@@ -193,6 +224,7 @@ static void all(void)
     unsigned before = _mm_getcsr();
     edits();
     offsets();
+    lines();
     turns();
     tell("payload", payload, sizeof payload);
     if (_mm_getcsr() != before)
