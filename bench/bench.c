@@ -29,6 +29,13 @@
  * The rows of a turn have a single file of 256 x 256 x 128 voxels and the time of one voxel: each order of the axes, with none
  * reversed and with all three. Beside them stand plain C, a loop nest that reads in the same order, writes one voxel after another
  * and copies the rest of the file, and a copy of the whole file. Then come the mean and the worst ratio.
+ *
+ * The rows of a line have a single file of 64 x 64 x 30 x 200 voxels of two bytes and the time of one line.
+ *   line: vestumbral_line, which reads the file, beside plain_line, which reads it too, and vestumbral_line_by_voxel (/whole).
+ *   line by record: one call of the crate line_run, which reads the file once and copies the lines along an axis through the 64 voxels of
+ *     axis 1. Beside it stands the plain C loop alone, over the same lines with the same stride, which judges nothing (/plain C), and the
+ *     same call of line_run with each voxel located (/whole).
+ * Beside both stands a copy of as many bytes that lie side by side.
  */
 #define _POSIX_C_SOURCE 200809L
 #include "../tests/nifti.h"
@@ -57,6 +64,13 @@ enum { CACHED = 1 << 20, CACHED_ROUNDS = 100, CACHED_CALLS = 10, BLOCK = 64 };
 
 /* The axes of the volume that is turned, its voxels, and the bytes after its image. */
 enum { SIDE = 256, SLICES = 128, TURNED = SIDE * SIDE * SLICES, TAIL = 100, TURN_ROUNDS = 9 };
+
+/* The axes of the volume whose lines are copied. */
+enum { WIDE = 64, DEEP = 30, TIMES = 200, LINE_CALLS = 2000, LINE_RUNS = 30 };
+
+/* The crate line_run: the lines along an axis through the first `count` voxels of axis 1, each over the one before; the most bytes of one. */
+uint64_t line_run_by_steps(const uint8_t *file, size_t file_len, uint64_t axis, uint64_t count, uint8_t *out, size_t out_len);
+uint64_t line_run_by_voxel(const uint8_t *file, size_t file_len, uint64_t axis, uint64_t count, uint8_t *out, size_t out_len);
 
 /* The crate voxel_run: the farthest place among the first `count` voxels of axis 1. */
 uint64_t voxel_run_by_record(const uint8_t *file, size_t file_len, uint64_t count);
@@ -630,6 +644,85 @@ static void turn_rows(void)
         }
 }
 
+/* The line of a row: its axis, and how many bytes it has. The library's goes to `other` and plain C's to `copy`. */
+static uint64_t along;
+static size_t line_bytes;
+
+static void lined(vestumbral_reply reply)
+{
+    if (reply.refusal != 0 || reply.length != line_bytes)
+        fail("a line is refused");
+}
+
+static void line_library(void) { lined(vestumbral_line(work, file_len, NULL, 0, along, 17, 31, 11, 99, 0, 0, 0, other, ROOM)); }
+static void line_by_voxel(void) { lined(vestumbral_line_by_voxel(work, file_len, NULL, 0, along, 17, 31, 11, 99, 0, 0, 0, other, ROOM)); }
+static void line_plain(void) { lined(plain_line(work, file_len, NULL, 0, along, 17, 31, 11, 99, 0, 0, 0, copy, ROOM)); }
+
+static void line_copy(void)
+{
+    memcpy(copy, work + 352, line_bytes);
+    sink = copy[line_bytes - 1];
+}
+
+static void drawn(uint64_t most)
+{
+    if (most != line_bytes)
+        fail("a line is refused");
+}
+
+static void drawn_library(void) { drawn(line_run_by_steps(work, file_len, along, WIDE, other, ROOM)); }
+static void drawn_by_voxel(void) { drawn(line_run_by_voxel(work, file_len, along, WIDE, other, ROOM)); }
+
+static void drawn_plain(void)
+{
+    for (uint64_t k = 0; k < WIDE; k++)
+        plain_steps(copy, work + read_before.data_offset + k * read_before.step[0], read_before.step[along - 1], read_before.dim[along],
+                    read_before.step[0]);
+    sink = copy[line_bytes - 1];
+}
+
+static void drawn_copy(void)
+{
+    for (int k = 0; k < WIDE; k++)
+        line_copy();
+}
+
+/* All ways of a row leave the same line. */
+static void line_row(const char *name, const char *input, way *const ways[WAYS], int calls, int parts)
+{
+    static const int beside[2] = {PLAIN, WHOLE};
+    for (int b = 0; b < 2; b++) {
+        memset(other, 1, line_bytes);
+        ways[beside[b]]();
+        if (beside[b] == WHOLE)
+            memcpy(copy, other, line_bytes);
+        memset(other, 2, line_bytes);
+        ways[LIBRARY]();
+        if (memcmp(other, copy, line_bytes) != 0)
+            fail("a line has other bytes");
+    }
+    row(name, input, ways, SMALL_ROUNDS / 4, calls, parts);
+}
+
+static void line_rows(void)
+{
+    static const int dims[4] = {3, WIDE, WIDE, DEEP};
+    static way *const by_file[WAYS] = {line_library, line_copy, NULL, line_plain, line_by_voxel};
+    static way *const by_record[WAYS] = {drawn_library, drawn_copy, NULL, drawn_plain, drawn_by_voxel};
+    file_len = 352 + (make(0, dims, 4, 16) - 352) * TIMES;
+    put16(work + 40, 4);
+    put16(work + 48, TIMES);
+    read_before = vestumbral_read(work, file_len);
+    for (along = 1; along <= 4; along++) {
+        char input[32];
+        snprintf(input, sizeof input, "%d voxels of axis %d", read_before.dim[along], (int)along);
+        line_bytes = read_before.dim[along] * read_before.step[0];
+        line_row("line", input, by_file, LINE_CALLS, 1);
+        if (along > 1)
+            line_row("line by record", input, by_record, LINE_RUNS, WIDE);
+    }
+}
+
 static uint32_t seed = 12345;
 
 static uint32_t chance(uint32_t below)
@@ -688,6 +781,20 @@ static void compare_turns(size_t length, const uint8_t *image, size_t image_len)
         fail("plain C turns into another file");
 }
 
+/* A line of a file, most often along one of its axes, into a buffer that is most often long enough, by both engines. */
+static void compare_lines(size_t length, const uint8_t *image, size_t image_len, const uint64_t i[4])
+{
+    enum { SIZE = 64 };
+    static uint8_t outs[3][SIZE];
+    const uint64_t axis = chance(16) == 0 ? chance(9) : 1 + chance(3);
+    const size_t out_len = chance(4) == 0 ? chance(20) : SIZE - chance(8);
+    vestumbral_reply a = vestumbral_line(work, length, image, image_len, axis, i[0], i[1], i[2], 0, 0, 0, i[3], outs[0], out_len);
+    same_replies(a, plain_line(work, length, image, image_len, axis, i[0], i[1], i[2], 0, 0, 0, i[3], outs[1], out_len));
+    same_replies(a, vestumbral_line_by_voxel(work, length, image, image_len, axis, i[0], i[1], i[2], 0, 0, 0, i[3], outs[2], out_len));
+    if (memcmp(outs[0], outs[1], SIZE) != 0 || memcmp(outs[0], outs[2], SIZE) != 0)
+        fail("a line has other bytes");
+}
+
 /* Each reading call of a file, and then each that changes it in turn, by the library and by plain C. */
 static void compare_calls(size_t length)
 {
@@ -714,6 +821,7 @@ static void compare_calls(size_t length)
     if (!f.pair) /* plain C does not judge a pair's image file */
         same_replies(vestumbral_voxel_in(f, 0, i, j, k, 0, 0, 0, last), plain_voxel_in(g, 0, i, j, k, 0, 0, 0, last));
     compare_turns(length, images[0], image_len);
+    compare_lines(length, images[0], image_len, (const uint64_t[4]){i, j, k, last});
     memcpy(other, work, SIZE);
     memcpy(copy, work, SIZE);
     memcpy(images[1], images[0], IMAGE_SIZE);
@@ -793,6 +901,8 @@ int main(void)
     swap_rows();
     slide_rows();
     piece_rows();
+    fill();
+    line_rows();
     fill();
     turn_rows();
     free(work);

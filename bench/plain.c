@@ -90,6 +90,60 @@ plain_place plain_place_of(const vestumbral_file *file,
     return (plain_place){place, file->step[0]};
 }
 
+/* Voxels of so many bytes that lie `step` bytes apart, one after another. */
+static inline __attribute__((always_inline)) void each_step(uint8_t *out, const uint8_t *from, uint64_t step, uint64_t count, size_t bytes)
+{
+    for (uint64_t k = 0; k < count; k++, from += step, out += bytes)
+        memcpy(out, from, bytes);
+}
+
+void plain_steps(uint8_t *out, const uint8_t *from, uint64_t step, uint64_t count, size_t bytes)
+{
+    switch (bytes) {
+    case 1: each_step(out, from, step, count, 1); break;
+    case 2: each_step(out, from, step, count, 2); break;
+    case 3: each_step(out, from, step, count, 3); break;
+    case 4: each_step(out, from, step, count, 4); break;
+    case 8: each_step(out, from, step, count, 8); break;
+    case 16: each_step(out, from, step, count, 16); break;
+    default: each_step(out, from, step, count, 32); break;
+    }
+}
+
+vestumbral_reply plain_line(const uint8_t *file, size_t file_len, const uint8_t *image, size_t image_len, uint64_t axis,
+                            uint64_t i1, uint64_t i2, uint64_t i3, uint64_t i4, uint64_t i5, uint64_t i6, uint64_t i7,
+                            uint8_t *out, size_t out_len)
+{
+    struct outline o;
+    if (!judge(file, file_len, 0, &o))
+        return (vestumbral_reply){.refusal = o.refusal, .place = o.place};
+    if (o.pair && image_len < o.offset + o.bytes)
+        return (vestumbral_reply){.refusal = 16};
+    if (axis < 1 || axis > (uint64_t)o.dim[0])
+        return (vestumbral_reply){.refusal = 17};
+    const uint64_t index[7] = {i1, i2, i3, i4, i5, i6, i7};
+    const uint64_t bytes = o.bitpix / 8, count = o.dim[axis];
+    uint64_t place = o.offset, step = bytes, along = 0;
+    for (int i = 0; i < 7; i++) {
+        uint64_t length = i < o.dim[0] ? o.dim[i + 1] : 1;
+        if (index[i] >= length)
+            return (vestumbral_reply){.refusal = 17};
+        if (i + 1 == (int)axis)
+            along = step;
+        else
+            place += index[i] * step;
+        step *= length;
+    }
+    if (out_len < count * bytes)
+        return (vestumbral_reply){.refusal = 22};
+    const uint8_t *from = (o.pair ? image : file) + place;
+    if (along == bytes)
+        memcpy(out, from, count * bytes);
+    else
+        plain_steps(out, from, along, count, bytes);
+    return (vestumbral_reply){.length = count * bytes};
+}
+
 /* A slice's turn, by its code and its distance from the first or the last slice. */
 static uint32_t rank_of(int code, int start, int end, int slice)
 {

@@ -1,7 +1,7 @@
 /*
- * The library's fifteen calls written plainly in C (plain.c, plain_pieces.c for those of a file in pieces, plain_turn.c for the
- * last): same arguments, same answers, same bytes left in every buffer. But plain_voxel_in is for single files that were read, and
- * judges nothing but the struct's own refusal and 17.
+ * The library's calls written plainly in C, those that have a second engine once (plain.c, plain_pieces.c for a file in pieces,
+ * plain_turn.c for a turn): same arguments, same answers, same bytes left in every buffer. But plain_voxel_in is for single files
+ * that were read, and judges nothing but the struct's own refusal and 17.
  */
 #ifndef BENCH_PLAIN_H
 #define BENCH_PLAIN_H
@@ -30,6 +30,13 @@ vestumbral_turned plain_turn(const uint8_t *file, size_t file_len, const uint8_t
                              uint64_t axis1, uint64_t axis2, uint64_t axis3,
                              uint64_t reverse1, uint64_t reverse2, uint64_t reverse3,
                              uint8_t *out, size_t out_len, uint8_t *out_image, size_t out_image_len);
+
+vestumbral_reply plain_line(const uint8_t *file, size_t file_len, const uint8_t *image, size_t image_len, uint64_t axis,
+                            uint64_t i1, uint64_t i2, uint64_t i3, uint64_t i4, uint64_t i5, uint64_t i6, uint64_t i7,
+                            uint8_t *out, size_t out_len);
+
+/* The loop alone: voxels of 1, 2, 3, 4, 8, 16 or 32 bytes that lie `step` bytes apart, one after another into `out`. */
+void plain_steps(uint8_t *out, const uint8_t *from, uint64_t step, uint64_t count, size_t bytes);
 
 /* Where a voxel is and how many bytes it has; 0 and 0 where an index is outside. The file was read before and is accepted. */
 typedef struct {

@@ -1,0 +1,2 @@
+-- A line more.
+mod Drawn
