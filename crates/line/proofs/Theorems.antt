@@ -35,7 +35,7 @@ use Rattle.line_plan.proofs.Places.{Inside, line-inside, own-number}
 use Rattle.line_copy.specs.declared.Lined.{Lined}
 use Rattle.line_copy.specs.declared.Lined.the-variants.{Copied, Refused}
 use Rattle.line_copy.specs.Copied.{Copies, lineIn}
-use Rattle.line.specs.Lines.{lineOf, fileRows, lineVerdict, lineAnswer, lineOut, CopiesRecord, Lines}
+use Rattle.line.specs.Lines.{lineOf, fileRows, lineVerdict, lineAnswer, lineOut, recordVerdict, CopiesRecord, Lines}
 use Rattle.line.proofs.Files.{two-passed, line-same, verdict-same}
 
 -- ---- The engines
@@ -62,6 +62,10 @@ read-lines file image axis index out {a = a} {o = o} accepted c =
     let d = subst (λ (v : Verdict). Copies v (lineIn (volumeOf h) file image axis index) out a o) same c in
     rw (line-same file image accepted axis index) at d
 
+-- what is copied is not refused
+copied-never : {k : ℕ} {r : Refusal} → Copied k ≡ Refused r → ⊥
+copied-never e = let z : _≡_ {A = ℕ} 0 1 = cc in absurd (omega arith)
+
 -- ---- What a line that is copied is like
 
 module _ (file image : List ℕ) (axis : ℕ) (index : List ℕ) (room k : ℕ) (done : lineAnswer file image axis index room ≡ Copied k) where
@@ -75,12 +79,9 @@ module _ (file image : List ℕ) (axis : ℕ) (index : List ℕ) (room k : ℕ) 
   abbrev bytes : ℕ
   bytes = voxelBytes h
 
-  refused-never-copied : (r : Refusal) → Refused r ≡ Copied k → ⊥
-  refused-never-copied r e = let z : _≡_ {A = ℕ} 0 1 = cc in absurd (omega arith)
-
   passed : (lineVerdict file image axis index room ≡ Verdicts.Accepted) × (Copied (length (lineOf file image axis index)) ≡ Copied k)
   unfolding lineAnswer
-  passed = decided-accepted (lineVerdict file image axis index room) refused-never-copied done
+  passed = decided-accepted (lineVerdict file image axis index room) (λ r e. copied-never (sym e)) done
 
   both : IsAccepted file × (verdict (fileRows h (length image) axis index room) ≡ Verdicts.Accepted)
   unfolding lineVerdict
@@ -153,10 +154,12 @@ pub line-refused : (file image : List ℕ) (axis : ℕ) (index out : List ℕ) (
     → lineAnswer file image axis index (length out) ≡ Refused r → lineOut file image axis index out ≡ out
 unfolding lineAnswer lineOut
 line-refused file image axis index out r e =
-    let p = decided-refused (lineVerdict file image axis index (length out)) (λ d. let z : _≡_ {A = ℕ} 0 1 = cc in absurd (omega arith)) e in
+    let p = decided-refused (lineVerdict file image axis index (length out)) copied-never e in
     rw (p .1)
 
--- ---- The numbers of the refusals: 1 to 15, 16, 17 and 22
+-- ---- The numbers of the refusals
+
+-- of a file 1 to 15, 16, 17 and 22
 
 abbrev pub lineNumber : ℕ → Bool
 lineNumber n = between 1 17 n || eqb n 22
@@ -165,7 +168,7 @@ pub line-number : (file image : List ℕ) (axis : ℕ) (index : List ℕ) (room 
     → lineNumber (r .number) ≡ true
 unfolding lineAnswer lineVerdict
 line-number file image axis index room r e =
-    let p = decided-refused (lineVerdict file image axis index room) (λ d. let z : _≡_ {A = ℕ} 0 1 = cc in absurd (omega arith)) e in
+    let p = decided-refused (lineVerdict file image axis index room) copied-never e in
     let same : p .0 ≡ r = cc (p .2) in
     rw (← same) (by (p .0) (readingOf file .verdict) refl (p .1))
   where
@@ -177,3 +180,15 @@ line-number file image axis index room r e =
     by q (Verdicts.Refused p) d f =
         let same : p ≡ q = cc in
         rw (between-wider 1 15 1 17 (q .number) refl (rw same at (reading-number file p d)))
+
+-- of a record 2, 8, 9, 11, 16, 17, 22 and 26
+abbrev pub recordLineNumber : ℕ → Bool
+recordLineNumber n = eqb n 2 || (between 8 9 n || (eqb n 11 || (between 16 17 n || (eqb n 22 || eqb n 26))))
+
+pub record-line-number : (h : Header) (file image : List ℕ) (axis : ℕ) (index out o : List ℕ) (r : Refusal)
+    → CopiesRecord h file image axis index out (Refused r) o → recordLineNumber (r .number) ≡ true
+record-line-number h file image axis index out o r c =
+    let v = recordVerdict h (length file) (length image) axis index (length out) in
+    let p = decided-refused v copied-never (sym (c .0)) in
+    let same : p .0 ≡ r = cc (p .2) in
+    rw (← same) (verdict-number recordLineNumber _ (p .0) refl (p .1))
