@@ -1,0 +1,3 @@
+-- The definitions that the contracts and the theorems cite.
+pub mod EachOnce
+pub mod Slices
