@@ -2,7 +2,7 @@
 use mathlib.Core.Path.{_≡_, refl, sym}
 use mathlib.Core.Bool.{Bool, true, false, not, cond, _&&_, _||_, and-eq-true-iff, false≢true}
 use Prim.Native.Nat.{ℕ, _≤_, _<_}
-use borrow.Author.Tests.{ltb-true, ltb-false, le-leb, lt-leb}
+use borrow.Author.Tests.{ltb-true, ltb-false, leb-true, le-leb, lt-leb}
 use lib.Dec.{leb, ltb}
 use lib.IntN.{ℤ, pos, negsuc}
 use lib.Signed.{leZ, ltZ}
@@ -31,9 +31,10 @@ in-order (pos a) b c e =
     go (pos b) (negsuc c) p q = absurd (false≢true q)
     go (pos b) (pos c) p q = (ltb-true a b p, ltb-true b c q)
 
--- where timing is stated: the duration is positive, and at least two slices were acquired
+-- where timing is stated: the duration is positive, the code is not 0, and at least two slices were acquired
 pub record Stated (a : Acquisition) : Type 0 where
   pub duration : positive (ofBits binary32 (a .«slice_duration»)) ≡ true
+  pub coded : 1 ≤ a .«slice_code»
   pub several : firstSlice a < lastSlice a
   pub inside : lastSlice a < sliceCount a
 
@@ -50,7 +51,12 @@ stated-has a e =
     let three = and-eq-true-iff (axis && duration && code) (acquires start end length) .0 e in
     let two = and-eq-true-iff (axis && duration) code .0 (three .0) in
     let o = in-order start end length (three .1) in
-    record { duration = and-eq-true-iff axis duration .0 (two .0) .1; several = o .0; inside = o .1 }
+    record {
+      duration = and-eq-true-iff axis duration .0 (two .0) .1;
+      coded = leb-true _ _ (and-eq-true-iff (leb 1 (a .«slice_code»)) (leb (a .«slice_code») 6) .0 (two .1) .0);
+      several = o .0;
+      inside = o .1;
+    }
 
 -- a slice that is not padding
 pub acquired-within : (s first last : ℕ) → (ltb s first || ltb last s) ≡ false → (first ≤ s) × (s ≤ last)

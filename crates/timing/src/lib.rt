@@ -7,7 +7,7 @@ ghost use lib.Ieee.{binary32, ofBits};
 ghost use lib.Ieee.Positive.{positive};
 ghost use Rattle.slices.specs.Ranks.{rankIn};
 ghost use Rattle.slices.specs.Times.{timeOf};
-ghost use Rattle.timing.specs.Slices.{sliceDim, acquires, isStated, sliceBy, acquisitionOf, sliceIn, timedBy};
+ghost use Rattle.timing.specs.Slices.{sliceDim, acquires, isStated, firstSlice, lastSlice, sliceBy, acquisitionOf, sliceIn, timedBy};
 use header::Header;
 use refusal::Refusal;
 use slices::Time;
@@ -45,7 +45,7 @@ fn acquires_in(start: i16, end: i16, length: i16) -> bool
 }
 
 // Whether timing is stated.
-fn is_stated(a: Acquisition) -> bool
+pub fn is_stated(a: Acquisition) -> bool
     ensures { λ r. ⌜ r ≡ isStated a ⌝ }
 {
     let dim = a.dim;
@@ -56,6 +56,20 @@ fn is_stated(a: Acquisition) -> bool
         & slices::is_positive(a.slice_duration)
         & ((1 <= code) & (code <= 6))
         & acquires_in(a.slice_start, a.slice_end, dim[d])
+}
+
+// The first slice that was acquired, where timing is stated.
+pub fn first_slice(a: Acquisition) -> u64
+    ensures { λ r. ⌜ (r ≡ firstSlice a) × (r ≤ 32767) ⌝ }
+{
+    number::natural(a.slice_start)
+}
+
+// The last one.
+pub fn last_slice(a: Acquisition) -> u64
+    ensures { λ r. ⌜ (r ≡ lastSlice a) × (r ≤ 32767) ⌝ }
+{
+    number::natural(a.slice_end)
 }
 
 // The answer for an acquired slice.
@@ -83,8 +97,8 @@ fn slice_stated(a: Acquisition, s: u64) -> Slice
             place: 0,
         });
     }
-    let start = number::natural(a.slice_start);
-    let end = number::natural(a.slice_end);
+    let start = first_slice(a);
+    let end = last_slice(a);
     if (s < start) | (end < s) {
         return Slice::Padding;
     }
@@ -109,7 +123,7 @@ pub fn slice_by(a: Acquisition, s: u64) -> Slice
 }
 
 // These fields of a record.
-fn acquisition_of(header: Header) -> Acquisition
+pub fn acquisition_of(header: Header) -> Acquisition
     ensures { λ r. ⌜ r ≡ acquisitionOf header ⌝ }
 {
     let dim = header.dim;

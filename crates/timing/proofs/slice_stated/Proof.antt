@@ -2,8 +2,6 @@
 use mathlib.Core.Path.{_≡_, sym, ap, _∙_}
 use mathlib.Core.Bool.{_||_}
 use lib.Dec.{ltb}
-use mir.Syntax.{w16}
-use mir.Val.{toZ, ofZ}
 use native.Mathlib.Omega.{arith}
 use Rattle.number.specs.Natural.{naturalOf}
 use Rattle.grid.specs.Axes.{dimAt}
@@ -19,29 +17,21 @@ use Rattle.timing.proofs.slice_stated.Tie as tie
 abbrev start : tie.After-axis-length → tie.Start
 start c = c .before .before .before .before
 
-abbrev count-of : tie.After-natural → tie.After-axis-length
-count-of c = c .before .before .before
+abbrev count-of : tie.After-first-slice → tie.After-axis-length
+count-of c = c .before .before
 
-abbrev first-of : tie.After-natural2 → tie.After-natural
-first-of c = c .before .before
+abbrev first-of : tie.After-last-slice → tie.After-first-slice
+first-of c = c .before
 
 count-is : (c : tie.After-axis-length) → c .axis-length .result ≡ sliceCount (start c .args .a)
 count-is c =
     c .axis-length .ensures .0 ∙ ap (λ d. naturalOf (dimAt (start c .args .a .dim) d)) (c .before .slice-dim .ensures .0)
 
-first-same : (c : tie.After-struct-told)
-    → let z = start (c .before .before) .args .a .«slice_start» in toZ w16 (ofZ w16 z) ≡ z
-first-same c = search needs
+first-is : (c : tie.After-first-slice) → c .first-slice .result ≡ firstSlice (start (count-of c) .args .a)
+first-is c = c .first-slice .ensures .0
 
-first-is : (c : tie.After-natural) → c .natural .result ≡ firstSlice (start (count-of c) .args .a)
-first-is c = c .natural .ensures .0 ∙ ap naturalOf (first-same (c .before))
-
-last-same : (c : tie.After-struct-told2)
-    → let z = start (count-of (c .before)) .args .a .«slice_end» in toZ w16 (ofZ w16 z) ≡ z
-last-same c = search needs
-
-last-is : (c : tie.After-natural2) → c .natural2 .result ≡ lastSlice (start (count-of (first-of c)) .args .a)
-last-is c = c .natural2 .ensures .0 ∙ ap naturalOf (last-same (c .before))
+last-is : (c : tie.After-last-slice) → c .last-slice .result ≡ lastSlice (start (count-of (first-of c)) .args .a)
+last-is c = c .last-slice .ensures .0
 
 slice-aggregate-axis-length : tie.Need-slice-aggregate-axis-length
 slice-aggregate-axis-length c = search needs
@@ -57,11 +47,11 @@ returns c =
     let S = start (c .before) in
     slice-outside (S .args .a) (S .args .s) (S .pre) (omega (arith, count-is (c .before)))
 
-natural-requires : tie.Need-natural-requires
-natural-requires c κs = search needs
+first-slice-requires : tie.Need-first-slice-requires
+first-slice-requires c κs = search needs
 
-natural-requires-2 : tie.Need-natural-requires-2
-natural-requires-2 c κs = search needs
+last-slice-requires : tie.Need-last-slice-requires
+last-slice-requires c κs = search needs
 
 returns-2 : tie.Need-returns-2
 returns-2 c =
@@ -95,7 +85,7 @@ returns-3 c =
     let S = start (count-of f) in
     let x = S .args in
     let code = x .a .«slice_code» in
-    let rank : rankIn code (f .natural .result) (e .natural2 .result) (x .s) ≡ rankAt (x .a) (x .s) =
+    let rank : rankIn code (f .first-slice .result) (e .last-slice .result) (x .s) ≡ rankAt (x .a) (x .s) =
     λ i. rankIn code (first-is f i) (last-is e i) (x .s) in
     c .timed .ensures
     ∙ (λ i. timedBy (rank i) (timeOf (x .a .«slice_duration») (rank i)))
@@ -110,8 +100,8 @@ slice-stated-spec =
     slice-dim-requires
     axis-length-requires
     returns
-    natural-requires
-    natural-requires-2
+    first-slice-requires
+    last-slice-requires
     returns-2
     cast-timed
     cast-timed-2
