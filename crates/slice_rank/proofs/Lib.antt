@@ -1,0 +1,2 @@
+-- The theorems on the slice of a rank.
+pub mod Theorems
