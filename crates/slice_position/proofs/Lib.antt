@@ -1,4 +1,5 @@
--- The theorems on the slices and the positions of a file.
+-- The theorems on the slices, the ranks and the positions of a file.
 mod Shown
 pub mod Slices
+pub mod Ranks
 pub mod Positions

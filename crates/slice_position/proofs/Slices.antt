@@ -35,20 +35,20 @@ last-half file = go (judgement file)
 
 module _ (file : List ℕ) (s : ℕ) where
   module _ (r : ℕ) (t : Float) (timed : sliceOf file s ≡ Timed r t) where
-    record-timed : sliceIn (readingOf file .header) s ≡ Timed r t
+    pub record-timed : IsAccepted file × (sliceIn (readingOf file .header) s ≡ Timed r t)
     unfolding sliceOf
-    record-timed = decided-accepted (readingOf file .verdict) (λ q e. false≢true (ap hasTime e)) timed .1
+    record-timed = decided-accepted (readingOf file .verdict) (λ q e. false≢true (ap hasTime e)) timed
 
     pub file-rank-below : let a = acquisitionOf (readingOf file .header) in r < countOf (firstSlice a) (lastSlice a)
-    file-rank-below = rank-below-count (acquisitionOf (readingOf file .header)) s r t record-timed
+    file-rank-below = rank-below-count (acquisitionOf (readingOf file .header)) s r t (record-timed .1)
 
     pub file-time-finite : finite t ≡ true
     file-time-finite =
-        let w = timed-is (acquisitionOf (readingOf file .header)) s r t record-timed in
+        let w = timed-is (acquisitionOf (readingOf file .header)) s r t (record-timed .1) in
         sym (ap finite (w .time)) ∙ w .reached
 
     pub file-time-rounded : RoundedOnce (acquisitionOf (readingOf file .header)) r t
-    file-time-rounded = time-rounded (acquisitionOf (readingOf file .header)) s r t record-timed (last-half file)
+    file-time-rounded = time-rounded (acquisitionOf (readingOf file .header)) s r t (record-timed .1) (last-half file)
 
   pub file-padding : let a = acquisitionOf (readingOf file .header) in
       IsAccepted file → isStated a ≡ true → s < sliceCount a → (s < firstSlice a) ⊎ (lastSlice a < s) → sliceOf file s ≡ Padding

@@ -1,13 +1,15 @@
-// A slice and a position of a file's bytes (01-scope.md, "Slices and positions"). Rules 1 to 15 come first, by the file's outline; then
-// the crates timing and position answer by the fields that they ask for, and no record is made.
+// A slice, the slice of a rank and a position of a file's bytes (01-scope.md, "Slices and positions"; 02-change-requests.md, P8). Rules 1 to
+// 15 come first, by the file's outline; then the crates timing, slice_rank and position answer by the fields that they ask for,
+// and no record is made.
 ghost use mathlib.Core.Path.{_≡_};
 ghost use Prim.Native.Nat.{_≤_};
 ghost use lib.ListN.{length};
-ghost use Rattle.slice_position.specs.Files.{acquisitionIn, sliceOf, sformIn, positionAt};
+ghost use Rattle.slice_position.specs.Files.{acquisitionIn, sliceOf, rankedOf, sformIn, positionAt};
 use field::Order;
 use outline::Outlined;
 use position::Positioned;
 use position::Sform;
+use slice_rank::Ranked;
 use timing::Acquisition;
 use timing::Slice;
 
@@ -37,6 +39,21 @@ pub fn slice_at(file: &[u8], s: u64) -> Slice
             let layout = outline.layout;
             let order = layout.order;
             timing::slice_by(acquisition_in(file, order), s)
+        }
+    }
+}
+
+// The slice of a rank of a file.
+pub fn slice_of_rank(file: &[u8], rank: u64) -> Ranked
+    ensures { λ r. ⌜ r ≡ rankedOf (now (file .entry)) rank ⌝ }
+{
+    let outlined = outline::outline_of(file, 0);
+    match outlined {
+        Outlined::Hidden(r) => Ranked::Refused(r),
+        Outlined::Shown(outline) => {
+            let layout = outline.layout;
+            let order = layout.order;
+            slice_rank::ranked_by(acquisition_in(file, order), rank)
         }
     }
 }
