@@ -21,7 +21,8 @@
  *     and are called in the default floating-point state: round to nearest, no exception trapped, neither flush-to-zero nor
  *     denormals-are-zero (a program linked with -ffast-math starts with both). In another state a time, a position or a turned srow
  *     number may be another number, and so may what hangs on it: a slice's state and refusal 23. Read, extension_at, voxel,
- *     voxel_in, both lines, both swaps, the edits, the calls for pieces and any other turn do not depend on that state.
+ *     voxel_in, both lines, slice_of_rank, both swaps, the edits, the calls for pieces and any other turn do not depend on that
+ *     state.
  *   - The stack has room: a turn takes some 72 KiB of it, every other call less than 8.
  *
  * The refusals. They are tried in the order of their numbers, but 24 and 25 before anything else by the calls that give them, and
@@ -48,7 +49,7 @@
  *   15  a 65th extension would begin                                                            its start
  *   16  pair: image file shorter than vox_offset + image bytes                                  0
  *   17  a voxel or slice index outside its axis; of a line also an axis number that is not in
- *       1..dim[0]                                                                               0
+ *       1..dim[0]; of slice_of_rank a rank that no slice has                                    0
  *   18  no extension with that number; the first is 0                                           0
  *   19  the code offered is negative                                                            0
  *   20  append where the extender's first byte is zero and bytes already follow 352 in the
@@ -121,6 +122,13 @@ typedef struct {
     uint32_t rank;        /* its turn, the first slice acquired has 0; 0 unless timed */
     float    seconds;     /* rank x slice_duration in binary32, in the file's own time unit; 0 unless timed */
 } vestumbral_slice;
+
+/* The slice of a rank. */
+typedef struct {
+    uint64_t refusal, place;
+    uint32_t stated;      /* 1 where timing is stated, else 0; 0 on a refusal */
+    uint32_t slice;       /* its index on the slice axis; 0 unless stated */
+} vestumbral_ranked;
 
 /* A position by Method 3 (the srow numbers). x, y and z are +0 on a refusal. */
 typedef struct {
@@ -202,6 +210,13 @@ vestumbral_reply vestumbral_line_by_voxel(const uint8_t *file, size_t file_len, 
  * is not, every slice is unstated. A slice whose time would be infinite is unstated too.
  */
 vestumbral_slice vestumbral_slice_at(const uint8_t *file, size_t file_len, uint64_t slice);
+
+/*
+ * Which slice was acquired at turn `rank`, the first has 0: the one slice of slice_start..slice_end with that rank. Where timing is
+ * stated, every rank below N = slice_end - slice_start + 1 has its slice. Refusals 1..15, then 17 for a rank of N or more, which is
+ * given only where timing is stated. The time is not looked at: a slice whose time would be infinite is answered like any other.
+ */
+vestumbral_ranked vestumbral_slice_of_rank(const uint8_t *file, size_t file_len, uint64_t rank);
 
 /*
  * The position of voxel (i, j, k), each coordinate ((s0 x i + s1 x j) + s2 x k) + s3 in binary32, rounded after each operation. An

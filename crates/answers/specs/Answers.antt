@@ -23,6 +23,8 @@ use Rattle.voxel.specs.declared.Located.{Located}
 use Rattle.voxel.specs.declared.Located.the-variants.{At, Unlocated}
 use Rattle.timing.specs.declared.Slice.{Slice}
 use Rattle.timing.specs.declared.Slice.the-variants as slice
+use Rattle.slice_rank.specs.declared.Ranked.{Ranked}
+use Rattle.slice_rank.specs.declared.Ranked.the-variants as ranked
 use Rattle.position.specs.declared.Positioned.{Positioned}
 use Rattle.position.specs.declared.Positioned.the-variants as position
 use Rattle.line_copy.specs.declared.Lined.{Lined}
@@ -33,6 +35,7 @@ use Rattle.answers.specs.declared.Reply.{Reply}
 use Rattle.answers.specs.declared.FileAnswer.{FileAnswer}
 use Rattle.answers.specs.declared.ExtensionAnswer.{ExtensionAnswer}
 use Rattle.answers.specs.declared.SliceAnswer.{SliceAnswer}
+use Rattle.answers.specs.declared.RankedAnswer.{RankedAnswer}
 use Rattle.answers.specs.declared.PositionAnswer.{PositionAnswer}
 
 -- a refusal as a reply
@@ -135,6 +138,12 @@ sliceAnswer (slice.Refused r) = record { refusal = r .number; place = r .place; 
 sliceAnswer slice.Unstated = record { refusal = 0; place = 0; state = 0; rank = 0; seconds = plusZero }
 sliceAnswer slice.Padding = record { refusal = 0; place = 0; state = 1; rank = 0; seconds = plusZero }
 sliceAnswer (slice.Timed rank t) = record { refusal = 0; place = 0; state = 2; rank = rank; seconds = t }
+
+-- the slice of a rank: stated 0 where timing is unstated, 1 with the slice
+abbrev pub rankedAnswer : Ranked → RankedAnswer
+rankedAnswer (ranked.Refused r) = record { refusal = r .number; place = r .place; stated = 0; slice = 0 }
+rankedAnswer ranked.Unstated = record { refusal = 0; place = 0; stated = 0; slice = 0 }
+rankedAnswer (ranked.At s) = record { refusal = 0; place = 0; stated = 1; slice = s }
 
 -- a position's three values
 abbrev pub positionAnswer : Positioned → PositionAnswer

@@ -6,7 +6,7 @@ ghost use Rattle.reader.specs.Reading.{readingOf};
 ghost use Rattle.outline.specs.Outline.{outlineOf};
 ghost use Rattle.answers.specs.Answers.{refusedReply, voxelReply, swapReply, lineReply, editReply, bigEndian};
 ghost use Rattle.answers.specs.Answers.{isPair, isAligned, refusedFile, fileAnswer, refusedExtension, extensionShown, sliceAnswer};
-ghost use Rattle.answers.specs.Answers.{positionAnswer};
+ghost use Rattle.answers.specs.Answers.{rankedAnswer, positionAnswer};
 use edit::Edited;
 use field::Order;
 use header::Kind;
@@ -16,6 +16,7 @@ use outline::Outlined;
 use position::Positioned;
 use refusal::Refusal;
 use refusal::Verdict;
+use slice_rank::Ranked;
 use timing::Slice;
 use voxel::Located;
 
@@ -63,6 +64,15 @@ pub struct SliceAnswer {
     pub state: u32,
     pub rank: u32,
     pub seconds: f32,
+}
+
+// The slice of a rank: stated 0 where timing is unstated.
+#[repr(C)]
+pub struct RankedAnswer {
+    pub refusal: u64,
+    pub place: u64,
+    pub stated: u32,
+    pub slice: u32,
 }
 
 // A position.
@@ -236,6 +246,31 @@ pub fn slice_answer(slice: Slice) -> SliceAnswer
         Slice::Unstated => slice_state(done, 0, 0, 0.0),
         Slice::Padding => slice_state(done, 1, 0, 0.0),
         Slice::Timed(rank, seconds) => slice_state(done, 2, rank as u32, seconds),
+    }
+}
+
+pub fn ranked_answer(ranked: Ranked) -> RankedAnswer
+    ensures { λ a. ⌜ a ≡ rankedAnswer ranked ⌝ }
+{
+    match ranked {
+        Ranked::Refused(r) => RankedAnswer {
+            refusal: r.number,
+            place: r.place as u64,
+            stated: 0,
+            slice: 0,
+        },
+        Ranked::Unstated => RankedAnswer {
+            refusal: 0,
+            place: 0,
+            stated: 0,
+            slice: 0,
+        },
+        Ranked::At(slice) => RankedAnswer {
+            refusal: 0,
+            place: 0,
+            stated: 1,
+            slice: slice as u32,
+        },
     }
 }
 

@@ -7,13 +7,13 @@ ghost use lib.IntN.{pos};
 ghost use lib.ListN.{length};
 ghost use Rattle.reader.specs.Reading.{readingOf};
 ghost use Rattle.by_file.specs.Files.{locatedOf};
-ghost use Rattle.slice_position.specs.Files.{sliceOf, positionAt};
+ghost use Rattle.slice_position.specs.Files.{sliceOf, rankedOf, positionAt};
 ghost use Rattle.byteswap.specs.Swap.{swapAnswer, swappedFile, swappedImage};
 ghost use Rattle.change.specs.declared.Change.the-variants.{Append, Replace, Remove};
 ghost use Rattle.edit.specs.Outcome.{outcomeOf, editAnswer, bufferAfter};
 ghost use Rattle.line.specs.Lines.{lineAnswer, lineOut};
 ghost use Rattle.answers.specs.Answers.{voxelReply, swapReply, lineReply, editReply, fileAnswer, extensionAnswer, sliceAnswer};
-ghost use Rattle.answers.specs.Answers.{positionAnswer};
+ghost use Rattle.answers.specs.Answers.{rankedAnswer, positionAnswer};
 ghost use Rattle.voxel_answers.specs.Answers.{voxelIn};
 ghost use Rattle.pieces.specs.Pieces.{fresh, takenOf};
 ghost use Rattle.piece_reader.specs.Answer.{answerOf};
@@ -23,6 +23,7 @@ ghost use Rattle.turn_answers.specs.Answers.{turnOf, turnedAnswer};
 use answers::ExtensionAnswer;
 use answers::FileAnswer;
 use answers::PositionAnswer;
+use answers::RankedAnswer;
 use answers::Reply;
 use answers::SliceAnswer;
 use outline::Outlined;
@@ -108,6 +109,14 @@ pub extern "C" fn vestumbral_slice_at(file: &[u8], slice: u64) -> SliceAnswer
     ensures { λ a. ⌜ a ≡ sliceAnswer (sliceOf (now (file .entry)) slice) ⌝ }
 {
     answers::slice_answer(slice_position::slice_at(file, slice))
+}
+
+// The slice of a rank: 1 to 15, then 17 where timing is stated.
+#[no_mangle]
+pub extern "C" fn vestumbral_slice_of_rank(file: &[u8], rank: u64) -> RankedAnswer
+    ensures { λ a. ⌜ a ≡ rankedAnswer (rankedOf (now (file .entry)) rank) ⌝ }
+{
+    answers::ranked_answer(slice_position::slice_of_rank(file, rank))
 }
 
 // A position by Method 3: 1 to 15, 17, then 23.
