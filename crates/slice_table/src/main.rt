@@ -1,5 +1,6 @@
-// Prints the answers of document 004's setting, seven slices of which 1 to 5 were acquired, by all six slice codes; the
-// ranks of an even number of slices, which no document has; and positions, of which the first shows the order of the
+// Prints the answers of document 004's setting, seven slices of which 1 to 5 were acquired, by all six slice codes, and the
+// slices of all ranks; the same where timing is unstated and where times are infinite; the ranks of an even number of slices,
+// which no document has; and positions, of which the first shows the order of the
 // roundings. The files are pairs' header files, made here. What is to be printed stands in the file stdout.
 ghost use mathlib.Core.Path.{_≡_};
 ghost use mathlib.Core.Bool.{true};
@@ -8,6 +9,7 @@ ghost use lib.Ieee.Scale.{finite};
 use field::Order;
 use libc::STDOUT_FILENO;
 use position::Positioned;
+use slice_rank::Ranked;
 use timing::Slice;
 
 fn say(text: &[u8]) {
@@ -41,13 +43,13 @@ fn put_shape(file: &mut [u8], a: i16, b: i16, c: i16) {
     store::put_u32(file, 344, Order::Little, 0x0031_696e);
 }
 
-// Slices along the third axis, each of which takes 0.1.
-fn put_timing(file: &mut [u8], code: u8, start: i16, end: i16) {
+// Slices along the third axis, by the bit pattern of the time that each takes.
+fn put_timing(file: &mut [u8], code: u8, start: i16, end: i16, duration: u32) {
     store::put_byte(file, 39, 0x30);
     store::put_i16(file, 74, Order::Little, start);
     store::put_i16(file, 120, Order::Little, end);
     store::put_byte(file, 122, code);
-    store::put_u32(file, 132, Order::Little, 0x3dcc_cccd);
+    store::put_u32(file, 132, Order::Little, duration);
 }
 
 // A row of the affine map, by the bit patterns of its numbers.
@@ -94,6 +96,30 @@ fn print_slices(file: &[u8]) {
     }
 }
 
+fn print_ranked(file: &[u8], rank: u64) {
+    say(b"rank ");
+    say_number(rank);
+    let answer = slice_position::slice_of_rank(file, rank);
+    match answer {
+        Ranked::Refused(r) => print_refusal(r.number, r.place),
+        Ranked::Unstated => say(b" unstated"),
+        Ranked::At(s) => {
+            say(b" slice ");
+            say_number(s as u64);
+        }
+    }
+    say(b"\n");
+}
+
+// The slices of all five ranks, and of the first number that is no rank.
+fn print_acquired(file: &[u8]) {
+    let mut rank = 0;
+    while rank < 6 {
+        print_ranked(file, rank);
+        rank += 1;
+    }
+}
+
 fn print_rank(file: &[u8], s: u64) {
     let answer = slice_position::slice_at(file, s);
     match answer {
@@ -117,15 +143,18 @@ fn print_ranks(file: &[u8], last: u8)
     say(b"\n");
 }
 
-// Seven slices, of which 1 to 5 were acquired.
-fn print_table(code: u8) {
+// Seven slices, of which 1 to 5 were acquired, each in this time.
+fn print_table(code: u8, duration: u32) {
     let mut file = [0u8; 348];
     put_shape(&mut file, 1, 1, 7);
-    put_timing(&mut file, code, 1, 5);
+    put_timing(&mut file, code, 1, 5, duration);
     say(b"slices 1 to 5, code ");
     say_number(code as u64);
+    say(b", duration ");
+    say_bits(duration);
     say(b"\n");
     print_slices(&file);
+    print_acquired(&file);
 }
 
 // Seven slices, of which 1 to last were acquired: their ranks by a code.
@@ -134,7 +163,7 @@ fn print_code(code: u8, last: u8)
 {
     let mut file = [0u8; 348];
     put_shape(&mut file, 1, 1, 7);
-    put_timing(&mut file, code, 1, last as i16);
+    put_timing(&mut file, code, 1, last as i16, 0x3dcc_cccd);
     say(b"slices 1 to ");
     say_number(last as u64);
     say(b", code ");
@@ -192,9 +221,11 @@ fn print_positions(sform_code: i16) {
 fn main() {
     let mut code = 1;
     while code <= 6 {
-        print_table(code);
+        print_table(code, 0x3dcc_cccd);
         code += 1;
     }
+    print_table(0, 0x3dcc_cccd);
+    print_table(3, 0x7f7f_ffff);
     print_codes(4);
     print_codes(6);
     print_codes(2);

@@ -25,6 +25,12 @@ loop-less c = search needs
 loop-again : tie.Need-loop-again Inv-loop μ-loop
 loop-again c = search needs
 
+print-table-requires-2 : tie.Need-print-table-requires-2 Inv-loop μ-loop
+print-table-requires-2 c κs = search needs
+
+print-table-requires-3 : tie.Need-print-table-requires-3 Inv-loop μ-loop
+print-table-requires-3 c κs = search needs
+
 print-codes-requires : tie.Need-print-codes-requires Inv-loop μ-loop
 print-codes-requires c κs = search needs
 
@@ -57,6 +63,8 @@ main-spec =
     add-code
     loop-less
     loop-again
+    print-table-requires-2
+    print-table-requires-3
     print-codes-requires
     print-codes-requires-2
     print-codes-requires-3
