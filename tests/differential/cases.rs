@@ -7,6 +7,7 @@ use crate::library::STATE_WORDS;
 use crate::line::Line;
 use crate::line_cases;
 use crate::memory::Where;
+use crate::rank_cases;
 use crate::record::Asked;
 use crate::record_cases;
 use crate::rules::{self, Edit, Known, Order, DATATYPES, REGION, REGION_LIMIT, TOTAL};
@@ -72,6 +73,7 @@ pub enum Call {
     Line(Line),
     LineByVoxel(Line),
     SliceAt { slice: u64 },
+    SliceOfRank { rank: u64 },
     PositionOf { index: [u64; 3] },
     Swap,
     SwapByUnit,
@@ -421,7 +423,7 @@ pub fn outside(random: &mut Random, bound: u64) -> u64 {
     random.pick(&[bound, bound + 1, (1 << 16) + low, (1 << 32) + low, 1 << 32, 1 << 63, (1 << 63) + low, u64::MAX])
 }
 
-fn number(random: &mut Random, bound: u64) -> u64 {
+pub fn number(random: &mut Random, bound: u64) -> u64 {
     if bound == 0 || random.once_in(4) {
         outside(random, bound)
     } else {
@@ -626,13 +628,14 @@ impl Case {
     /// The case of this number.
     pub fn new(seed: u64, number_of_case: u64, zeros: &[u8]) -> Case {
         let random = &mut Random::new(seed, number_of_case);
-        let call = random.below(31);
-        if call > 27 {
+        let call = random.below(34);
+        if call > 30 {
             return record_cases::case(record_cases::any(random));
         }
         let file = match call {
             2 | 16..=19 => extended_file(random),
             20..=24 => turn_cases::file(random),
+            7 | 28.. => rank_cases::file(random),
             _ => file(random),
         };
         let known = rules::read(&file).ok();
@@ -649,6 +652,7 @@ impl Case {
             10..=12 => (Call::Swap, file, image(random, known, true)),
             13..=15 => append(random, file, zeros),
             16..=18 => replace(random, file, known, zeros),
+            28.. => (rank_cases::any(random, &file, known), file, none),
             20.. => {
                 let any = if call < 25 { turn_cases::any } else { line_cases::any };
                 let (call, other, filled) = any(random, &file, known);
@@ -696,7 +700,7 @@ fn slice(random: &mut Random, file: &[u8], known: Option<&Known>) -> u64 {
 }
 
 /// The cases that hang on no seed, and come first.
-pub const FIXED: u64 = LINES + line_cases::FIXED + record_cases::FIXED + extender_cases::FIXED + turn_cases::FIXED;
+pub const FIXED: u64 = RANKS + rank_cases::FIXED + record_cases::FIXED + extender_cases::FIXED + turn_cases::FIXED;
 
 /// The cases at 2^27 and 2^40, which take up to half a gigabyte while they run; the files that are cut at every place; those that
 /// are fed up to 2^41 bytes.
@@ -704,17 +708,19 @@ pub const LARGE: u64 = 27;
 const CUT: u64 = 22;
 const TALL: u64 = 13;
 
-/// The first case of each number of units, and the first line, among those that hang on no seed.
+/// The first case of each number of units, the first line and the first rank, among those that hang on no seed.
 pub const SWAPS: u64 = LARGE + CUT + TALL;
 pub const LINES: u64 = SWAPS + swap_cases::FIXED;
+pub const RANKS: u64 = LINES + line_cases::FIXED;
 
 pub fn fixed(number: u64) -> Case {
-    let groups: [(u64, fn(u64) -> Case); 8] = [
+    let groups: [(u64, fn(u64) -> Case); 9] = [
         (LARGE, large),
         (CUT, |number| Case::fed(cut_everywhere(number), Feeding::EveryCut)),
         (TALL, |number| Case::fed(tall(number), Feeding::ToTotal)),
         (swap_cases::FIXED, swap_cases::fixed),
         (line_cases::FIXED, line_cases::fixed),
+        (rank_cases::FIXED, rank_cases::fixed),
         (record_cases::FIXED, record_cases::fixed),
         (extender_cases::FIXED, extender_cases::fixed),
         (turn_cases::FIXED, turn_cases::fixed),

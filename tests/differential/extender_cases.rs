@@ -28,7 +28,7 @@ pub const EXTENDERS: [[u8; 4]; 14] = [
 const COUNT: u64 = EXTENDERS.len() as u64;
 /// What follows the extender: nothing, one extension, two, or two and some bytes.
 const MANNERS: u64 = 4;
-const CALLS: u64 = 13;
+const CALLS: u64 = 14;
 
 const WHOLE: u64 = COUNT * 2 * 2 * MANNERS * CALLS;
 /// Lengths 348 to 351.
@@ -67,12 +67,12 @@ pub fn digits<const N: usize>(number: u64, bases: [u64; N]) -> [usize; N] {
     })
 }
 
-/// A file of 2 x 2 x 3 voxels that has a position, and a pair's image file.
+/// A file of 2 x 2 x 3 voxels that has a position and states timing, and a pair's image file.
 fn file(big: bool, pair: bool, extender: [u8; 4], manner: usize) -> (Vec<u8>, Vec<u8>) {
     let order = if big { Order::Big } else { Order::Little };
     let notes = [extension(order, 16, 6, &[0xa1; 8]), extension(order, 32, 4, &[0xa2; 24]), vec![0xa3; 7]];
     let region = notes[..manner].concat();
-    let mut header = Header::new(order, pair).dims(&[2, 2, 3]).datatype(4);
+    let mut header = Header::new(order, pair).dims(&[2, 2, 3]).datatype(4).timed(0x30, [0, 2], 3, 1_f32.to_bits());
     header.set16(254, 1);
     let image: Vec<u8> = (1..=24).collect();
     if pair {
@@ -103,9 +103,10 @@ fn asked(call: usize, buffer: Vec<u8>, file_len: u64, image: Vec<u8>) -> Case {
         6 => Case::at(Call::ExtensionAt { number: 0 }, file, Other::none()),
         7 => Case::at(Call::Voxel { index: [1, 1, 2, 0, 0, 0, 0] }, file, image),
         8 => Case::at(Call::SliceAt { slice: 0 }, file, Other::none()),
-        9 => Case::at(Call::PositionOf { index: [1, 1, 2] }, file, Other::none()),
-        10 => Case::at(Call::Swap, file, image),
-        11 => Case::filling(Call::Line(Line { axis: 3, index: [1, 1, 2, 0, 0, 0, 0] }), file, image, rooms),
+        9 => Case::at(Call::SliceOfRank { rank: 1 }, file, Other::none()),
+        10 => Case::at(Call::PositionOf { index: [1, 1, 2] }, file, Other::none()),
+        11 => Case::at(Call::Swap, file, image),
+        12 => Case::filling(Call::Line(Line { axis: 3, index: [1, 1, 2, 0, 0, 0, 0] }), file, image, rooms),
         _ => Case::filling(Call::Turn { axes: [2, 3, 1], reverse: [1, 0, 1], next }, file, image, rooms),
     }
 }

@@ -59,6 +59,16 @@ impl Header {
         self
     }
 
+    /// dim_info, slice_start and slice_end, slice_code, and slice_duration by its bits.
+    pub fn timed(mut self, dim_info: u8, [start, end]: [i16; 2], code: u8, duration: u32) -> Header {
+        self.bytes[39] = dim_info;
+        self.set16(74, start);
+        self.set16(120, end);
+        self.bytes[122] = code;
+        self.set32(132, duration);
+        self
+    }
+
     /// The header and what follows it.
     pub fn file(self, parts: &[&[u8]]) -> Vec<u8> {
         let mut bytes = self.bytes;

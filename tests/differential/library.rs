@@ -1,4 +1,4 @@
-//! The library's eighteen calls as include/vestumbral.h declares them, and their answers. Nothing checks these declarations but the
+//! The library's nineteen calls as include/vestumbral.h declares them, and their answers. Nothing checks these declarations but the
 //! comparison itself, so they are kept beside one another and in the header's order.
 
 use std::fmt;
@@ -64,6 +64,15 @@ pub struct SliceAnswer {
     pub state: u32,
     pub rank: u32,
     pub seconds: Float,
+}
+
+#[repr(C)]
+#[derive(Clone, Copy, Default, PartialEq, Eq, Debug)]
+pub struct RankedAnswer {
+    pub refusal: u64,
+    pub place: u64,
+    pub stated: u32,
+    pub slice: u32,
 }
 
 #[repr(C)]
@@ -161,6 +170,7 @@ extern "C" {
         out_len: usize,
     ) -> Reply;
     pub fn vestumbral_slice_at(file: *const u8, file_len: usize, slice: u64) -> SliceAnswer;
+    pub fn vestumbral_slice_of_rank(file: *const u8, file_len: usize, rank: u64) -> RankedAnswer;
     pub fn vestumbral_position_of(file: *const u8, file_len: usize, i: u64, j: u64, k: u64) -> PositionAnswer;
     pub fn vestumbral_swap(file: *mut u8, file_len: usize, image: *mut u8, image_len: usize) -> Reply;
     pub fn vestumbral_swap_by_unit(file: *mut u8, file_len: usize, image: *mut u8, image_len: usize) -> Reply;
@@ -211,6 +221,7 @@ pub enum Answer {
     File(FileAnswer),
     Extension(ExtensionAnswer),
     Slice(SliceAnswer),
+    Ranked(RankedAnswer),
     Position(PositionAnswer),
     Turned(TurnedAnswer),
 }
@@ -222,6 +233,7 @@ impl Answer {
             Answer::File(answer) => answer.refusal,
             Answer::Extension(answer) => answer.refusal,
             Answer::Slice(answer) => answer.refusal,
+            Answer::Ranked(answer) => answer.refusal,
             Answer::Position(answer) => answer.refusal,
             Answer::Turned(answer) => answer.refusal,
         }

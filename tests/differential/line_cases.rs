@@ -71,7 +71,7 @@ pub fn fixed(number: u64) -> Case {
     cases::grouped(number, &groups)
 }
 
-fn order(big: usize) -> Order {
+pub fn order(big: usize) -> Order {
     if big == 1 {
         Order::Big
     } else {
@@ -81,7 +81,7 @@ fn order(big: usize) -> Order {
 
 /// A file of the first so many of these dims and its image, any bytes before and after the voxels: private ones, or those of the
 /// image file.
-fn file(random: &mut Random, order: Order, pair: bool, axes: usize, dims: [i16; 7], datatype: usize) -> (Vec<u8>, Other) {
+pub fn file(random: &mut Random, order: Order, pair: bool, axes: usize, dims: [i16; 7], datatype: usize) -> (Vec<u8>, Other) {
     let (code, bits, _) = DATATYPES[datatype];
     let mut header = Header::over(random.bytes(348), order, pair).dims(&dims).datatype(code);
     header.set16(40, axes as i16);
@@ -155,8 +155,17 @@ fn long_axes(number: u64) -> Case {
     asked(random, Line { axis: axis as u64, index }, both, 32767 * DATATYPES[datatype].1 as usize / 8 - 1 + fits)
 }
 
+/// The kind of a file that reading refuses by this number: no pair is refused by 11 and no single file by 12.
+pub fn kind(number: usize, pair: bool) -> bool {
+    match number {
+        11 => false,
+        12 => true,
+        _ => pair,
+    }
+}
+
 /// The file of 3 x 2 x 4 voxels of two bytes and its image, with a fault for which reading refuses it by this number; 0 for none.
-fn refused(number: usize, order: Order, pair: bool) -> (Vec<u8>, Vec<u8>) {
+pub fn refused(number: usize, order: Order, pair: bool) -> (Vec<u8>, Vec<u8>) {
     let dims: [i16; 3] = if number == 10 { [16384, 16384, 4097] } else { [3, 2, 4] };
     let count = [(13, 0), (14, 2), (15, 65)].iter().find(|row| row.0 == number).map(|row| row.1);
     let note = |i| extension(order, 16, if number == 14 && i == 1 { -1 } else { 4 }, b"one note");
@@ -190,16 +199,12 @@ fn refused(number: usize, order: Order, pair: bool) -> (Vec<u8>, Vec<u8>) {
     (file, image)
 }
 
-/// A line that each bit of the number gives a fault, 16, 17 and 22, and the numbers of the refusals that hold. No pair is refused
-/// by 11 and no single file by 12; a file of no kind and a single file are not refused by 16.
+/// A line that each bit of the number gives a fault, 16, 17 and 22, and the numbers of the refusals that hold. A file of no kind
+/// and a single file are not refused by 16.
 pub fn together(number: u64) -> (Case, Vec<u64>) {
     let random = &mut Random::new(75, number);
     let [bits, reading, pair, _] = digits(number, [8, 16, 2, 8]);
-    let pair = match reading {
-        11 => false,
-        12 => true,
-        _ => pair == 1,
-    };
+    let pair = kind(reading, pair == 1);
     let short = bits & 1 != 0 && pair && ![1, 4].contains(&reading);
     let (outside, no_room) = (bits & 2 != 0, bits & 4 != 0);
     let (file, image) = refused(reading, random.pick(&[Order::Little, Order::Big]), pair);

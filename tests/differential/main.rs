@@ -2,13 +2,14 @@
 //! time in rules.rs, line.rs, turn.rs and record.rs: the whole answer, the whole of every lent buffer, and the bytes beside it. A
 //! file that is read is fed in pieces too, a voxel is located by the record of its file too, a line is copied voxel by voxel too,
 //! what is swapped is swapped unit by unit too, what a call that writes leaves is read again, what an edit's reply says of the new
-//! offset is held to that reading, a turn that is not refused is held to the laws of turns, and a file whose extender is one of the
-//! base's is held to the base's rule.
+//! offset is held to that reading, a turn that is not refused is held to the laws of turns, a slice and its rank are held to those
+//! of ranks, and a file whose extender is one of the base's is held to the base's rule.
 //!
 //!     differential [--cases N] [--seed S] [--only CASE] [--self-check]
 //!
-//! It fails on any difference, and where a refusal that a call can give was never reached, two of a line, of a turn or of voxel_in
-//! never held together, a line or voxel_in never met a border of its rules, or a call was never done with some kind of extender.
+//! It fails on any difference, and where a refusal that a call can give was never reached, two of a line, of a rank, of a turn or
+//! of voxel_in never held together, a line, a rank or voxel_in never met a border of its rules, a law was never tried, or a call
+//! was never done with some kind of extender.
 
 mod cases;
 mod extender_cases;
@@ -19,7 +20,10 @@ mod line;
 mod line_cases;
 mod lines;
 mod memory;
+mod noticed;
 mod pieces;
+mod rank_cases;
+mod ranks;
 mod record;
 mod record_cases;
 mod records;
@@ -33,6 +37,7 @@ mod turn_laws;
 mod wrong_alignment;
 mod wrong_extenders;
 mod wrong_lines;
+mod wrong_ranks;
 mod wrong_steps;
 mod wrong_swaps;
 mod wrong_turns;
@@ -42,7 +47,7 @@ use library::*;
 use line::Line;
 use memory::{Area, Lent, Tall, Where};
 use record::Asked;
-use rules::{Edit, Extender, Known, Order, Refusal, Slice, Span, RESERVED};
+use rules::{Edit, Extender, Known, Order, Ranked, Refusal, Slice, Span, RESERVED};
 use std::sync::atomic::Ordering;
 use together::Together;
 use turn::Turn;
@@ -106,6 +111,14 @@ fn slice_answer(file: &[u8], slice: u64) -> Answer {
     })
 }
 
+fn ranked_answer(found: Ranked) -> RankedAnswer {
+    match found {
+        Ok(Some(slice)) => RankedAnswer { stated: 1, slice, ..RankedAnswer::default() },
+        Ok(None) => RankedAnswer::default(),
+        Err(no) => RankedAnswer { refusal: no.number, place: no.place, ..RankedAnswer::default() },
+    }
+}
+
 fn position_answer(file: &[u8], index: [u64; 3]) -> Answer {
     Answer::Position(match rules::position_of(file, index) {
         Ok([x, y, z]) => PositionAnswer { x: Float(x), y: Float(y), z: Float(z), ..PositionAnswer::default() },
@@ -159,6 +172,7 @@ fn by_rules(extender: &Extender, case: &Case, zeros: &[u8]) -> Outcome {
             Err(no) => kept(reply(Err(no))),
         },
         Call::SliceAt { slice } => kept(slice_answer(main, slice)),
+        Call::SliceOfRank { rank } => kept(Answer::Ranked(ranked_answer(rules::slice_of_rank(main, rank)))),
         Call::PositionOf { index } => kept(position_answer(main, index)),
         Call::Swap | Call::SwapByUnit => match rules::swap(main, other) {
             Ok((main, other)) => Outcome { main, other, ..kept(reply(Ok((0, 0)))) },
@@ -233,6 +247,7 @@ unsafe fn call(call: Call, (main, length): Buffer, (other, other_len): Buffer, r
             Answer::Reply(vestumbral_line_by_voxel(main, length, other, other_len, axis, a, b, c, d, e, f, g, out, out_len))
         }
         Call::SliceAt { slice } => Answer::Slice(vestumbral_slice_at(main, length, slice)),
+        Call::SliceOfRank { rank } => Answer::Ranked(vestumbral_slice_of_rank(main, length, rank)),
         Call::PositionOf { index: [i, j, k] } => Answer::Position(vestumbral_position_of(main, length, i, j, k)),
         Call::Swap => Answer::Reply(vestumbral_swap(main, length, other, other_len)),
         Call::SwapByUnit => Answer::Reply(vestumbral_swap_by_unit(main, length, other, other_len)),
@@ -317,6 +332,7 @@ fn call_difference(case: &Case, memory: &mut Memory, counts: &mut Counts) -> Opt
     counts.add(call_number(&case.call), expected.answer.refusal());
     counts.extenders.count(case, expected.answer.refusal());
     counts.lines.count(case);
+    counts.ranks.count(case);
     if answer != expected.answer {
         return Some(format!("\n  rules   {:?}\n  library {:?}", expected.answer, answer));
     }
@@ -331,6 +347,7 @@ fn call_difference(case: &Case, memory: &mut Memory, counts: &mut Counts) -> Opt
         .or_else(|| counts.extenders.base_difference(case, zeros, &expected))
         .or_else(|| turn_difference(case, counts))
         .or_else(|| records::difference(case, memory.main.content(&main), &expected, counts))
+        .or_else(|| ranks::difference(case, memory.main.content(&main), &expected, &mut counts.ranks))
         .or_else(|| pieces::difference(memory.main.content(&main), &case.feeding, &mut memory.other, &mut memory.tall, counts))
 }
 
@@ -411,9 +428,9 @@ fn reduce(case: &Case, memory: &mut Memory) -> Case {
     least
 }
 
-const CALLS: [&str; 17] = [
+const CALLS: [&str; 18] = [
     "read", "extension", "voxel", "slice", "position", "swap", "append", "replace", "remove", "take", "pieces", "pieces_ext",
-    "turn", "voxel_in", "by_unit", "line", "by_voxel",
+    "turn", "voxel_in", "by_unit", "line", "by_voxel", "rank",
 ];
 const PIECES_TAKE: usize = 9;
 const PIECES_FILE: usize = 10;
@@ -422,6 +439,7 @@ const VOXEL_IN: usize = 13;
 const SWAP_BY_UNIT: usize = 14;
 const LINE: usize = 15;
 const LINE_BY_VOXEL: usize = 16;
+const SLICE_OF_RANK: usize = 17;
 
 /// The refusals that each call can give.
 fn possible(call: usize) -> Vec<usize> {
@@ -431,7 +449,7 @@ fn possible(call: usize) -> Vec<usize> {
         "voxel" => &[16, 17],
         "voxel_in" => &[16, 17, 26],
         "line" | "by_voxel" => &[16, 17, 22],
-        "slice" => &[17],
+        "slice" | "rank" => &[17],
         "position" => &[17, 23],
         "swap" | "by_unit" => &[16],
         "append" => &[19, 20, 21, 22, 24],
@@ -459,6 +477,7 @@ fn call_number(call: &Call) -> usize {
         Call::SwapByUnit => SWAP_BY_UNIT,
         Call::Line(_) => LINE,
         Call::LineByVoxel(_) => LINE_BY_VOXEL,
+        Call::SliceOfRank { .. } => SLICE_OF_RANK,
     }
 }
 
@@ -476,6 +495,7 @@ struct Counts {
     extenders: extenders::Reached,
     records: records::Reached,
     lines: lines::Reached,
+    ranks: ranks::Reached,
 }
 
 /// The refusals of a turn that may hold together: of two the one that is tried first, and the other.
@@ -507,6 +527,7 @@ impl Counts {
         self.extenders.print();
         self.records.print();
         self.lines.print();
+        self.ranks.print();
     }
 
     /// Which refusals were never reached, alone or before another, which laws were never tried, and which extenders and borders
@@ -520,7 +541,7 @@ impl Counts {
         let Tried { back, composed, swapped } = self.tried;
         let laws = [(back, "a turn back"), (composed, "a composed turn"), (swapped, "a turn and a swap")];
         let tried = laws.into_iter().filter(|law| law.0 == 0).map(|law| law.1.to_string());
-        let others = [self.extenders.missing(), self.records.missing(), self.lines.missing()].concat();
+        let others = [self.extenders.missing(), self.records.missing(), self.lines.missing(), self.ranks.missing()].concat();
         given.chain(together).chain(tried).chain(others).collect()
     }
 }

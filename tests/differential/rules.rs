@@ -403,33 +403,98 @@ pub fn rank(code: u8, start: i64, end: i64, s: i64) -> i64 {
     }
 }
 
-/// Refusals 1 to 15; then unstated, 17, padding, and unstated again where the time is infinite.
+/// What the header says of slice timing.
+#[derive(Clone, Copy, Debug)]
+pub struct Timing {
+    /// slice_dim.
+    pub axis: usize,
+    /// The length of that axis; 0 where slice_dim is not in 1..3 or is above dim[0].
+    pub slices: i64,
+    pub start: i64,
+    pub end: i64,
+    pub code: u8,
+    pub duration: f32,
+}
+
+impl Timing {
+    pub fn of(file: &[u8], known: &Known) -> Timing {
+        let axis = (file[39] >> 4 & 3) as usize;
+        let has_axis = (1..=3).contains(&axis) && axis <= known.axes();
+        Timing {
+            axis,
+            slices: if has_axis { known.dim[axis] as i64 } else { 0 },
+            start: i16_at(file, 74, known.order) as i64,
+            end: i16_at(file, 120, known.order) as i64,
+            code: file[122],
+            duration: f32_at(file, 132, known.order),
+        }
+    }
+
+    pub fn stated(&self) -> bool {
+        let Timing { slices, start, end, code, duration, .. } = *self;
+        let time_stated = duration.is_finite() && duration > 0.0 && (1..=6).contains(&code);
+        time_stated && 0 <= start && start < end && end < slices
+    }
+
+    /// N, where timing is stated.
+    pub fn count(&self) -> u64 {
+        (self.end - self.start + 1) as u64
+    }
+
+    pub fn rank(&self, s: i64) -> i64 {
+        rank(self.code, self.start, self.end, s)
+    }
+
+    pub fn seconds(&self, rank: i64) -> f32 {
+        rank as f32 * self.duration
+    }
+
+    /// The same order in the other direction, INC for DEC or DEC for INC.
+    pub fn mirrored(&self) -> Timing {
+        Timing { code: ((self.code - 1) ^ 1) + 1, ..*self }
+    }
+
+    /// Unstated, 17, padding, and unstated again where the time is infinite.
+    pub fn slice_at(&self, slice: u64) -> Result<Slice, Refusal> {
+        if !self.stated() {
+            return Ok(Slice::Unstated);
+        }
+        if slice >= self.slices as u64 {
+            return refuse(17, 0);
+        }
+        let s = slice as i64;
+        if s < self.start || s > self.end {
+            return Ok(Slice::Padding);
+        }
+        let rank = self.rank(s);
+        let seconds = self.seconds(rank);
+        Ok(if seconds.is_infinite() { Slice::Unstated } else { Slice::Timed { rank: rank as u32, seconds } })
+    }
+
+    /// Unstated, which is none, then 17; then the slice that has the rank, found by the rule of ranks alone.
+    pub fn slice_of_rank(&self, rank: u64) -> Ranked {
+        if !self.stated() {
+            return Ok(None);
+        }
+        if rank >= self.count() {
+            return refuse(17, 0);
+        }
+        let slice = (self.start..=self.end).find(|&s| self.rank(s) as u64 == rank);
+        Ok(Some(slice.expect("a slice of each rank below N") as u32))
+    }
+}
+
+/// The slice of a rank, or none where timing is not stated.
+pub type Ranked = Result<Option<u32>, Refusal>;
+
+/// Refusals 1 to 15, then 17.
 pub fn slice_at(file: &[u8], slice: u64) -> Result<Slice, Refusal> {
-    let known = read(file)?;
-    let slice_dim = (file[39] >> 4 & 3) as usize;
-    let start = i16_at(file, 74, known.order) as i64;
-    let end = i16_at(file, 120, known.order) as i64;
-    let code = file[122];
-    let duration = f32_at(file, 132, known.order);
-    let axis_stated = (1..=3).contains(&slice_dim) && slice_dim <= known.axes();
-    let time_stated = duration.is_finite() && duration > 0.0 && (1..=6).contains(&code);
-    if !axis_stated || !time_stated {
-        return Ok(Slice::Unstated);
-    }
-    let slices = known.dim[slice_dim] as i64;
-    if !(0 <= start && start < end && end < slices) {
-        return Ok(Slice::Unstated);
-    }
-    if slice >= slices as u64 {
-        return refuse(17, 0);
-    }
-    let s = slice as i64;
-    if s < start || s > end {
-        return Ok(Slice::Padding);
-    }
-    let rank = rank(code, start, end, s);
-    let seconds = rank as f32 * duration;
-    Ok(if seconds.is_infinite() { Slice::Unstated } else { Slice::Timed { rank: rank as u32, seconds } })
+    Timing::of(file, &read(file)?).slice_at(slice)
+}
+
+/// "Every acquired slice has its turn" (02-change-requests.md, P8). Refusals 1 to 15, then 17.
+pub fn slice_of_rank(file: &[u8], rank: u64) -> Ranked {
+    Timing::of(file, &read(file)?).slice_of_rank(rank)
 }
 
 /// ((s0 x i + s1 x j) + s2 x k) + s3, each operation rounded to binary32.

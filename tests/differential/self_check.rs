@@ -6,14 +6,16 @@ use crate::cases::{self, Call, Case, Other};
 use crate::files::{extension, file_a, Header, EXTENSIONS, NO_EXTENSIONS, OFFSET_352};
 use crate::library::{Answer, FileAnswer, Reply};
 use crate::line::{self, Line};
+use crate::noticed::Noticed;
 use crate::pieces::twin;
 use crate::record::Asked;
 use crate::rules::*;
 use crate::turn::{came_from, faults, reversed_row, turn, Turn};
 use crate::turn_laws::{broken, Both, Engine, Tried};
-use crate::{by_rules, case, extender_cases, file_answer, line_cases, memory, record_cases, turn_cases};
-use crate::{swap_cases, wrong_alignment, wrong_extenders, wrong_lines, wrong_steps, wrong_swaps, wrong_turns};
+use crate::{by_rules, case, extender_cases, file_answer, line_cases, memory, rank_cases, ranks, record_cases, turn_cases};
+use crate::{wrong_alignment, wrong_extenders, wrong_lines, wrong_ranks, wrong_steps, wrong_swaps, wrong_turns};
 use std::fmt::Debug;
+use std::ops::Range;
 
 #[derive(Default)]
 struct Checks {
@@ -474,13 +476,7 @@ const TIMING_TABLE: [[i64; 6]; 5] =
 const TIMES: [u32; 5] = [0, 0x3dcc_cccd, 0x3e4c_cccd, 0x3e99_999a, 0x3ecc_cccd];
 
 fn timed_file(order: Order, code: u8, duration: u32) -> Vec<u8> {
-    let mut header = Header::new(order, true).dims(&[1, 1, 7]).datatype(2);
-    header.bytes[39] = 0x39;
-    header.bytes[122] = code;
-    header.set16(74, 1);
-    header.set16(120, 5);
-    header.set32(132, duration);
-    header.bytes
+    Header::new(order, true).dims(&[1, 1, 7]).datatype(2).timed(0x39, [1, 5], code, duration).bytes
 }
 
 fn slices(checks: &mut Checks) {
@@ -532,6 +528,86 @@ fn slices(checks: &mut Checks) {
     checks.equal("slice_end 1", slice_at(&changed(file.clone(), 120, &[0, 1]), 1), Ok(Slice::Unstated));
     checks.equal("slice_start -1", slice_at(&changed(file.clone(), 74, &[255, 255]), 1), Ok(Slice::Unstated));
     checks.equal("slice_dim past dim[0]", slice_at(&changed(file, 40, &[0, 2]), 1), Ok(Slice::Unstated));
+}
+
+/// The table of document 004 the other way: slices of ranks 0 to 4 by SEQ_INC, SEQ_DEC, ALT_INC, ALT_DEC, ALT_INC2 and ALT_DEC2.
+const RANK_TABLE: [[u32; 5]; 6] =
+    [[1, 2, 3, 4, 5], [5, 4, 3, 2, 1], [1, 3, 5, 2, 4], [5, 3, 1, 4, 2], [2, 4, 1, 3, 5], [4, 2, 5, 3, 1]];
+
+/// Numbers that are no rank of five slices.
+const NO_RANKS: [u64; 10] =
+    [5, 6, 7, 256, 65_536, 65_537, 4_294_967_296, 4_294_967_297, 9_223_372_036_854_775_808, 18_446_744_073_709_551_615];
+
+/// The slice of a rank (02-change-requests.md, P8), with what is refused first.
+fn slices_of_ranks(checks: &mut Checks) {
+    for (column, slices) in RANK_TABLE.iter().enumerate() {
+        let code = column as u8 + 1;
+        for (order, duration) in [(BIG, 0x3dcc_cccd), (LITTLE, 1), (BIG, 0x7f7f_ffff)] {
+            let file = timed_file(order, code, duration);
+            let found: Vec<Ranked> = (0..5).map(|rank| slice_of_rank(&file, rank)).collect();
+            checks.equal("the table, backwards", found, slices.map(|slice| Ok(Some(slice))).to_vec());
+            NO_RANKS.iter().for_each(|&rank| checks.refused("a rank of N or more", slice_of_rank(&file, rank), 17, 0));
+        }
+    }
+    let even: [(u8, &[u32]); 12] = [
+        (1, &[1, 2, 3, 4]),
+        (2, &[4, 3, 2, 1]),
+        (3, &[1, 3, 2, 4]),
+        (4, &[4, 2, 3, 1]),
+        (5, &[2, 4, 1, 3]),
+        (6, &[3, 1, 4, 2]),
+        (1, &[1, 2]),
+        (2, &[2, 1]),
+        (3, &[1, 2]),
+        (4, &[2, 1]),
+        (5, &[2, 1]),
+        (6, &[1, 2]),
+    ];
+    for (code, slices) in even {
+        let file = changed(timed_file(BIG, code, 0x3dcc_cccd), 120, &[0, slices.len() as u8]);
+        let found: Vec<Ranked> = (0..slices.len() as u64).map(|rank| slice_of_rank(&file, rank)).collect();
+        checks.equal("an even number of slices", found, slices.iter().map(|&slice| Ok(Some(slice))).collect());
+        checks.refused("and no more", slice_of_rank(&file, slices.len() as u64), 17, 0);
+    }
+    unstated_ranks(checks);
+}
+
+fn unstated_ranks(checks: &mut Checks) {
+    let file = timed_file(BIG, 3, 0x3dcc_cccd);
+    let unstated = [(39, vec![0xcf]), (40, vec![0, 2]), (74, vec![255, 255]), (74, vec![0, 5]), (120, vec![0, 7]), (122, vec![0])];
+    let durations = [0, 0x8000_0000, 0xbdcc_cccd, 0x7f80_0000, 0x7fc0_0000_u32].map(|bits| (132, bits.to_be_bytes().to_vec()));
+    for (at, bytes) in unstated.into_iter().chain([(122, vec![7])]).chain(durations) {
+        for rank in [0, 4].into_iter().chain(NO_RANKS) {
+            checks.equal("unstated before 17", slice_of_rank(&changed(file.clone(), at, &bytes), rank), Ok(None));
+        }
+    }
+    checks.refused("reading first", slice_of_rank(&file[..347], u64::MAX), 1, 0);
+    checks.refused("with its place", slice_of_rank(&changed(file, 344, b"nil\0"), 0), 4, 344);
+    for number in 0..rank_cases::TOGETHER {
+        let (case, holds) = rank_cases::together(number);
+        if let Call::SliceOfRank { rank } = case.call {
+            let faults = ranks::faults(&case.main, rank);
+            checks.equal("which refusals hold together", faults.iter().map(|no| no.number).collect::<Vec<_>>(), holds);
+        }
+    }
+}
+
+/// The laws of ranks (02-change-requests.md, P8), over even and odd N: slices start to end have the ranks 0 to N - 1, each once;
+/// the slice of a rank has that rank; a slice's rank is in the other direction that of the slice at start + end - s.
+fn rank_laws(checks: &mut Checks) {
+    for (n, start, code) in (2..=40).flat_map(|n| (0..4).flat_map(move |start| (1..=6).map(move |code| (n, start, code)))) {
+        let end = start + n - 1;
+        let timing = Timing { axis: 3, slices: end + 1 + n % 3, start, end, code, duration: 0.1 };
+        let ranks: Vec<i64> = (start..=end).map(|s| timing.rank(s)).collect();
+        let mut sorted = ranks.clone();
+        sorted.sort();
+        checks.equal("ranks 0 to N - 1, each once", sorted, (0..n).collect());
+        let back: Vec<Ranked> = ranks.iter().map(|&rank| timing.slice_of_rank(rank as u64)).collect();
+        checks.equal("the slice of its rank", back, (start..=end).map(|s| Ok(Some(s as u32))).collect());
+        let other = timing.mirrored();
+        checks.equal("the other direction", other.code, [2, 1, 4, 3, 6, 5][code as usize - 1]);
+        checks.equal("the mirror", (start..=end).map(|s| other.rank(start + end - s)).collect(), ranks);
+    }
 }
 
 /// A pair of 300 x 300 x 300 with these srow numbers.
@@ -799,66 +875,28 @@ fn turn_laws(checks: &mut Checks) {
     }
 }
 
-/// The wrong extenders on cases of the comparison: on those made for them, and on random ones alone.
-fn wrong_extenders(checks: &mut Checks) {
+/// Wrong programs on cases of the comparison: on those of these numbers, and on random ones alone.
+fn all_noticed(checks: &mut Checks, fixed: Range<u64>, noticed: fn(&mut dyn Iterator<Item = Case>, &[u8]) -> Noticed) {
     let zeros = memory::zeros(cases::ZEROS);
+    let random = cases::FIXED..cases::FIXED + 20_000;
+    for numbers in [fixed, random] {
+        for (name, count) in noticed(&mut numbers.map(|number| case(1, number, zeros)), zeros) {
+            checks.holds(name, count > 0);
+        }
+    }
+}
+
+/// Each on the cases made for it; the steps on all that hang on no seed but the large ones and the turns.
+fn wrong_programs(checks: &mut Checks) {
     let turns = cases::FIXED - turn_cases::FIXED;
-    let fixed = turns - extender_cases::FIXED..turns;
-    let random = cases::FIXED..cases::FIXED + 20_000;
-    for numbers in [fixed, random] {
-        for (name, count) in wrong_extenders::noticed(numbers.map(|number| case(1, number, zeros)), zeros) {
-            checks.holds(name, count > 0);
-        }
-    }
-}
-
-/// The wrong steps on cases of the comparison: on those that hang on no seed, and on random ones alone.
-fn wrong_steps(checks: &mut Checks) {
-    let zeros = memory::zeros(cases::ZEROS);
-    let fixed = cases::LARGE..cases::FIXED - turn_cases::FIXED;
-    let random = cases::FIXED..cases::FIXED + 20_000;
-    for numbers in [fixed, random] {
-        for (name, count) in wrong_steps::noticed(numbers.map(|number| case(1, number, zeros))) {
-            checks.holds(name, count > 0);
-        }
-    }
-}
-
-/// The wrong swaps on cases of the comparison: on those made for them, and on random ones alone.
-fn wrong_swaps(checks: &mut Checks) {
-    let zeros = memory::zeros(cases::ZEROS);
-    let fixed = cases::SWAPS..cases::SWAPS + swap_cases::FIXED;
-    let random = cases::FIXED..cases::FIXED + 20_000;
-    for numbers in [fixed, random] {
-        for (name, count) in wrong_swaps::noticed(numbers.map(|number| case(1, number, zeros)), zeros) {
-            checks.holds(name, count > 0);
-        }
-    }
-}
-
-/// The wrong lines on cases of the comparison: on those made for them, and on random ones alone.
-fn wrong_lines(checks: &mut Checks) {
-    let zeros = memory::zeros(cases::ZEROS);
-    let fixed = cases::LINES..cases::LINES + line_cases::FIXED;
-    let random = cases::FIXED..cases::FIXED + 20_000;
-    for numbers in [fixed, random] {
-        for (name, count) in wrong_lines::noticed(numbers.map(|number| case(1, number, zeros))) {
-            checks.holds(name, count > 0);
-        }
-    }
-}
-
-/// The wrong alignments on cases of the comparison: on those made for them, and on random ones alone.
-fn wrong_alignment(checks: &mut Checks) {
-    let zeros = memory::zeros(cases::ZEROS);
-    let extenders = cases::FIXED - turn_cases::FIXED - extender_cases::FIXED;
-    let fixed = extenders - record_cases::ALIGNMENTS..extenders;
-    let random = cases::FIXED..cases::FIXED + 20_000;
-    for numbers in [fixed, random] {
-        for (name, count) in wrong_alignment::noticed(numbers.map(|number| case(1, number, zeros)), zeros) {
-            checks.holds(name, count > 0);
-        }
-    }
+    let extenders = turns - extender_cases::FIXED;
+    all_noticed(checks, extenders..turns, |cases, zeros| wrong_extenders::noticed(cases, zeros));
+    all_noticed(checks, cases::LARGE..turns, |cases, _| wrong_steps::noticed(cases));
+    all_noticed(checks, cases::SWAPS..cases::LINES, |cases, zeros| wrong_swaps::noticed(cases, zeros));
+    all_noticed(checks, cases::LINES..cases::RANKS, |cases, _| wrong_lines::noticed(cases));
+    all_noticed(checks, cases::RANKS..cases::RANKS + rank_cases::FIXED, |cases, _| wrong_ranks::noticed(cases));
+    let alignments = extenders - record_cases::ALIGNMENTS..extenders;
+    all_noticed(checks, alignments, |cases, zeros| wrong_alignment::noticed(cases, zeros));
 }
 
 /// Laws on random files: bytes that a state may not keep change nothing that is read, a voxel by the record is that by the file, a
@@ -992,10 +1030,9 @@ pub fn run() {
     let mut checks = Checks::default();
     let values = [
         file_a_numbers, offsets, alignment, images, steps_read, voxels_by_record, lines, headers, reserved_bytes, extensions,
-        pieces, slices, positions, swaps, edits, turns,
+        pieces, slices, slices_of_ranks, positions, swaps, edits, turns,
     ];
-    let wrong = [wrong_extenders, wrong_steps, wrong_swaps, wrong_lines, wrong_alignment];
-    for part in values.into_iter().chain([laws as fn(&mut Checks), turn_laws]).chain(wrong) {
+    for part in values.into_iter().chain([laws as fn(&mut Checks), rank_laws, turn_laws, wrong_programs]) {
         part(&mut checks);
     }
     println!("self-check: {} checks, {} failed", checks.done, checks.failed);

@@ -4,6 +4,7 @@
 
 use crate::cases::{Call, Case};
 use crate::library::{Answer, FileAnswer, Reply};
+use crate::noticed::{self, Noticed};
 use crate::rules::{f32_at, walked, Order, Refusal, RESERVED};
 use crate::{by_rules, reply};
 
@@ -91,13 +92,11 @@ const WRONG: [(&str, Wrong); 21] = [
 ];
 
 /// The wrong programs by their names, and how many of these cases notice each. A turn's answer has nothing of it.
-pub fn noticed(cases: impl Iterator<Item = Case>, zeros: &[u8]) -> Vec<(&'static str, u64)> {
-    let mut noticed: Vec<(&str, u64)> = WRONG.iter().map(|wrong| (wrong.0, 0)).collect();
+pub fn noticed(cases: impl Iterator<Item = Case>, zeros: &[u8]) -> Noticed {
+    let mut noticed = noticed::none(&WRONG);
     for case in cases.filter(|case| !matches!(case.call, Call::Turn { .. })) {
         let right = by_rules(&RESERVED, &case, zeros).answer;
-        for ((_, wrong), (_, count)) in WRONG.iter().zip(&mut noticed) {
-            *count += (wrong(&case, right) != right) as u64;
-        }
+        noticed::count(&mut noticed, &WRONG, |wrong| wrong(&case, right) != right);
     }
     noticed
 }

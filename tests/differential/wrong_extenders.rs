@@ -2,6 +2,7 @@
 //! hurried colleague would write. The cases of the comparison must notice each.
 
 use crate::cases::{Call, Case};
+use crate::noticed::{self, Noticed};
 use crate::rules::{self, Edit, Extender, Refusal, BASE, RESERVED};
 use crate::{by_rules, edit_reply, reply, Outcome};
 
@@ -117,17 +118,12 @@ const WRONG: [(&str, Wrong); 17] = [
     }),
 ];
 
-/// A wrong program that so many cases noticed is not run on more.
-const ENOUGH: u64 = 10;
-
 /// The wrong programs by their names, and how many of these cases notice each.
-pub fn noticed(cases: impl Iterator<Item = Case>, zeros: &[u8]) -> Vec<(&'static str, u64)> {
-    let mut noticed: Vec<(&str, u64)> = WRONG.iter().map(|wrong| (wrong.0, 0)).collect();
+pub fn noticed(cases: impl Iterator<Item = Case>, zeros: &[u8]) -> Noticed {
+    let mut noticed = noticed::none(&WRONG);
     for case in cases {
         let right = right(&case, zeros);
-        for ((_, wrong), (_, count)) in WRONG.iter().zip(&mut noticed).filter(|(_, (_, count))| *count < ENOUGH) {
-            *count += (wrong(&case, zeros) != right) as u64;
-        }
+        noticed::count(&mut noticed, &WRONG, |wrong| wrong(&case, zeros) != right);
     }
     noticed
 }

@@ -3,6 +3,7 @@
 
 use crate::cases::{Call, Case, Other};
 use crate::line::{self, Line};
+use crate::noticed::{self, Noticed};
 use crate::over;
 use crate::rules::{self, Known, Refusal};
 use std::array::from_fn;
@@ -245,12 +246,9 @@ fn own_index(asked: &Asked) -> u64 {
     asked.line.index[asked.line.axis as usize - 1]
 }
 
-/// A wrong program that so many cases noticed is not run on more.
-const ENOUGH: u64 = 10;
-
 /// The wrong programs by their names, and how many of these cases notice each.
-pub fn noticed(cases: impl Iterator<Item = Case>) -> Vec<(&'static str, u64)> {
-    let mut noticed: Vec<(&str, u64)> = WRONG.iter().map(|wrong| (wrong.0, 0)).collect();
+pub fn noticed(cases: impl Iterator<Item = Case>) -> Noticed {
+    let mut noticed = noticed::none(&WRONG);
     for case in cases {
         let (Call::Line(line), Other::Own(out)) = (case.call, &case.rooms[0]) else {
             continue;
@@ -260,9 +258,7 @@ pub fn noticed(cases: impl Iterator<Item = Case>) -> Vec<(&'static str, u64)> {
         }
         let asked = Asked { file: &case.main, image: case.other.own(), line, out };
         let right = asked.right();
-        for ((_, wrong), (_, count)) in WRONG.iter().zip(&mut noticed).filter(|(_, (_, count))| *count < ENOUGH) {
-            *count += (wrong(&asked) != right) as u64;
-        }
+        noticed::count(&mut noticed, &WRONG, |wrong| wrong(&asked) != right);
     }
     noticed
 }

@@ -4,6 +4,7 @@
 use crate::cases::{Call, Case};
 use crate::file_answer;
 use crate::library::FileAnswer;
+use crate::noticed::{self, Noticed};
 use crate::record::{Asked, TRIED};
 use crate::rules::{self, Known, Refusal, IMAGE_LIMIT, REGION, REGION_LIMIT};
 
@@ -192,26 +193,18 @@ const LOCATORS: [(&str, Locator); 39] = [
     ("dim[0] is a byte", |asked| with(asked, |asked| asked.record.dim[0] &= 255)),
 ];
 
-/// A wrong program that so many cases noticed is not run on more.
-const ENOUGH: u64 = 10;
-
 /// The wrong programs by their names, and how many of these cases notice each.
-pub fn noticed(cases: impl Iterator<Item = Case>) -> Vec<(&'static str, u64)> {
-    let mut readers: Vec<(&str, u64)> = READERS.iter().map(|wrong| (wrong.0, 0)).collect();
-    let mut locators: Vec<(&str, u64)> = LOCATORS.iter().map(|wrong| (wrong.0, 0)).collect();
+pub fn noticed(cases: impl Iterator<Item = Case>) -> Noticed {
+    let (mut readers, mut locators) = (noticed::none(&READERS), noticed::none(&LOCATORS));
     for case in cases {
         match case.call {
             Call::VoxelIn(asked) => {
                 let right = asked.voxel();
-                for ((_, wrong), (_, count)) in LOCATORS.iter().zip(&mut locators).filter(|(_, (_, count))| *count < ENOUGH) {
-                    *count += (wrong(&asked) != right) as u64;
-                }
+                noticed::count(&mut locators, &LOCATORS, |wrong| wrong(&asked) != right);
             }
             Call::Read => {
                 let right = right(&case.main);
-                for ((_, wrong), (_, count)) in READERS.iter().zip(&mut readers).filter(|(_, (_, count))| *count < ENOUGH) {
-                    *count += (wrong(&case.main) != right) as u64;
-                }
+                noticed::count(&mut readers, &READERS, |wrong| wrong(&case.main) != right);
             }
             _ => {}
         }

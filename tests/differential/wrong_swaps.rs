@@ -2,6 +2,7 @@
 //! would write. The cases of the comparison must notice each.
 
 use crate::cases::{Call, Case};
+use crate::noticed::{self, Noticed};
 use crate::rules::{self, RESERVED};
 use crate::{by_rules, Outcome};
 
@@ -79,17 +80,17 @@ fn wrong_outcome(case: &Case, right: &Outcome, turns: Turns) -> Option<(Vec<u8>,
 }
 
 /// The wrong programs by their names, and how many of these cases notice each.
-pub fn noticed(cases: impl Iterator<Item = Case>, zeros: &[u8]) -> Vec<(&'static str, u64)> {
-    let mut noticed: Vec<(&str, u64)> = WRONG.iter().map(|wrong| (wrong.0, 0)).collect();
+pub fn noticed(cases: impl Iterator<Item = Case>, zeros: &[u8]) -> Noticed {
+    let mut noticed = noticed::none(&WRONG);
     for case in cases.filter(|case| case.call == Call::Swap) {
         let right = by_rules(&RESERVED, &case, zeros);
         if right.answer.refusal() != 0 {
             continue;
         }
-        for ((_, turns), (_, count)) in WRONG.iter().zip(&mut noticed) {
+        noticed::count(&mut noticed, &WRONG, |turns| {
             let left = wrong_outcome(&case, &right, *turns);
-            *count += left.is_some_and(|(main, other)| main != right.main || other != right.other) as u64;
-        }
+            left.is_some_and(|(main, other)| main != right.main || other != right.other)
+        });
     }
     noticed
 }

@@ -2,6 +2,7 @@
 //! each.
 
 use crate::cases::{Call, Case, Other};
+use crate::noticed::{self, Noticed};
 use crate::over;
 use crate::rules::{self, bytes_of_u32, f32_at, i16_at, Known, Refusal};
 use crate::turn::{self, Turn};
@@ -221,12 +222,9 @@ const WRONG: [(&str, Wrong); 29] = [
     ("30 is tried before 29", |asked| asked.in_order([16, 30, 29, 23, 22])),
 ];
 
-/// A wrong program that so many cases noticed is not run on more.
-const ENOUGH: u64 = 10;
-
 /// The wrong programs by their names, and how many of these cases notice each.
-pub fn noticed(cases: impl Iterator<Item = Case>) -> Vec<(&'static str, u64)> {
-    let mut noticed: Vec<(&str, u64)> = WRONG.iter().map(|wrong| (wrong.0, 0)).collect();
+pub fn noticed(cases: impl Iterator<Item = Case>) -> Noticed {
+    let mut noticed = noticed::none(&WRONG);
     for case in cases {
         let (Call::Turn { axes, reverse, .. }, Other::Own(_)) = (case.call, &case.other) else {
             continue;
@@ -236,9 +234,7 @@ pub fn noticed(cases: impl Iterator<Item = Case>) -> Vec<(&'static str, u64)> {
         };
         let asked = Asked { file: &case.main, image: case.other.own(), axes, reverse, rooms: [out, out_image] };
         let right = asked.right();
-        for ((_, wrong), (_, count)) in WRONG.iter().zip(&mut noticed).filter(|(_, (_, count))| *count < ENOUGH) {
-            *count += (wrong(&asked) != right) as u64;
-        }
+        noticed::count(&mut noticed, &WRONG, |wrong| wrong(&asked) != right);
     }
     noticed
 }
