@@ -18,6 +18,8 @@ _Static_assert(offsetof(vestumbral_file, step) == 64 && offsetof(vestumbral_file
 _Static_assert(VESTUMBRAL_INTERFACE == 3, "interface");
 _Static_assert(sizeof(vestumbral_extension) == 32 && offsetof(vestumbral_extension, code) == 28, "extension");
 _Static_assert(sizeof(vestumbral_slice) == 32 && offsetof(vestumbral_slice, seconds) == 24, "slice");
+_Static_assert(sizeof(vestumbral_ranked) == 24 && offsetof(vestumbral_ranked, stated) == 16, "ranked");
+_Static_assert(offsetof(vestumbral_ranked, slice) == 20, "ranked");
 _Static_assert(sizeof(vestumbral_position) == 32 && offsetof(vestumbral_position, z) == 24, "position");
 _Static_assert(sizeof(vestumbral_pieces) == 896 && offsetof(vestumbral_pieces, at) == 360, "pieces");
 _Static_assert(offsetof(vestumbral_pieces, coming) == 376 && offsetof(vestumbral_pieces, marks[63].code) == 892, "pieces");
@@ -53,6 +55,16 @@ static int edited(vestumbral_reply reply, uint64_t length, uint64_t aligned)
 static int refused(vestumbral_reply reply, uint64_t refusal)
 {
     return reply.refusal == refusal && reply.place == 0 && reply.length == 0 && reply.aligned == 0;
+}
+
+static int ranked(vestumbral_ranked answer, uint32_t stated, uint32_t slice)
+{
+    return answer.refusal == 0 && answer.place == 0 && answer.stated == stated && answer.slice == slice;
+}
+
+static int not_ranked(vestumbral_ranked answer, uint64_t refusal, uint64_t place)
+{
+    return answer.refusal == refusal && answer.place == place && answer.stated == 0 && answer.slice == 0;
 }
 
 static int turned(vestumbral_turned answer, uint64_t length, uint64_t image_length)
@@ -155,6 +167,8 @@ static void too_short(uint8_t *bytes, size_t length)
     vestumbral_slice slice = vestumbral_slice_at(bytes, length, 0);
     REFUSED(slice, 1, 0);
     CHECK(slice.state == 0 && slice.rank == 0 && float_bits(slice.seconds) == 0);
+    CHECK(not_ranked(vestumbral_slice_of_rank(bytes, length, 0), 1, 0));
+    CHECK(not_ranked(vestumbral_slice_of_rank(bytes, length, UINT64_MAX), 1, 0));
     vestumbral_position position = vestumbral_position_of(bytes, length, 0, 0, 0);
     REFUSED(position, 1, 0);
     CHECK(float_bits(position.x) == 0 && float_bits(position.y) == 0 && float_bits(position.z) == 0);
@@ -841,18 +855,24 @@ static void units(enum source source, swap_call *swap)
         }
 }
 
-/* Document 004's table: dim[3] is 7, slice_duration 0.1, slices 1 to 5; the times by rank in binary32. */
+/* Document 004's file: dim[3] is 7, slice_duration 0.1, slices 1 to 5; without slice_code. */
+static void file_004(uint8_t *file)
+{
+    header(file, 1, (const int[]){3, 1, 1, 7}, 2, 8, 0);
+    file[39] = 0x39;
+    put16(file + 74, 1);
+    put16(file + 120, 5);
+    put32(file + 132, 0x3dcccccd);
+}
+
+/* Document 004's table; the times by rank in binary32. */
 static void slices(enum source source)
 {
     static const uint8_t ranks[6][5] = {{0, 1, 2, 3, 4}, {4, 3, 2, 1, 0}, {0, 3, 1, 4, 2}, /* SEQ_INC, SEQ_DEC, ALT_INC */
                                         {2, 4, 1, 3, 0}, {2, 0, 3, 1, 4}, {4, 1, 3, 0, 2}}; /* ALT_DEC, ALT_INC2, ALT_DEC2 */
     static const uint32_t times[5] = {0, 0x3dcccccd, 0x3e4ccccd, 0x3e99999a, 0x3ecccccd};
     uint8_t *file = take(source, 348);
-    header(file, 1, (const int[]){3, 1, 1, 7}, 2, 8, 0);
-    file[39] = 0x39;
-    put16(file + 74, 1);
-    put16(file + 120, 5);
-    put32(file + 132, 0x3dcccccd);
+    file_004(file);
     CHECK(vestumbral_slice_at(file, 348, 7).refusal == 0); /* slice_code 0: unstated, and no 17 */
     for (int code = 1; code <= 6; code++) {
         file[122] = code;
@@ -865,6 +885,137 @@ static void slices(enum source source)
         REFUSED(vestumbral_slice_at(file, 348, 7), 17, 0);
     }
     give_back(source, file, 348);
+}
+
+/* Ranks that are none of five slices, some of which a narrower number would take for one. */
+static const uint64_t no_ranks[] = {5, 6, 7, 256, 65535, 65536, 65537, 4294967296, 4294967297, UINT64_MAX / 2 + 1, UINT64_MAX};
+
+/* Whether the file answers ranks 0 to 4 with these slices and refuses every other rank; for NULL, whether all are unstated. */
+static int has_ranks(const uint8_t *file, const uint8_t *by_rank)
+{
+    int right = 1;
+    for (uint64_t rank = 0; rank < 5; rank++)
+        right &= ranked(vestumbral_slice_of_rank(file, 348, rank), by_rank != NULL, by_rank ? by_rank[rank] : 0);
+    for (size_t i = 0; i < sizeof no_ranks / sizeof *no_ranks; i++) {
+        vestumbral_ranked answer = vestumbral_slice_of_rank(file, 348, no_ranks[i]);
+        right &= by_rank ? not_ranked(answer, 17, 0) : ranked(answer, 0, 0);
+    }
+    return right;
+}
+
+/* Document 004's table backwards, whatever the time; then each field past what is stated, where no rank is refused. */
+static void ranks(enum source source)
+{
+    static const uint8_t table[6][5] = {{1, 2, 3, 4, 5}, {5, 4, 3, 2, 1}, {1, 3, 5, 2, 4}, /* SEQ_INC, SEQ_DEC, ALT_INC */
+                                        {5, 3, 1, 4, 2}, {2, 4, 1, 3, 5}, {4, 2, 5, 3, 1}}; /* ALT_DEC, ALT_INC2, ALT_DEC2 */
+    static const uint32_t stated[] = {0x3dcccccd, 1, 0x007fffff, 0x7f000000, 0x7f7fffff}; /* by the last two times are infinite */
+    static const uint32_t unstated[] = {0, 0x80000000, 0x80000001, 0xbdcccccd, 0x7f800000, 0x7f800001, 0x7fc00000, 0xff800000};
+    static const struct { int at, value; } fields[] = {{74, 0xffff}, {74, 0x8000}, {74, 5}, {74, 6}, {120, 1}, {120, 0}, {120, 7},
+                                                       {120, 0x7fff}, {120, 0xffff}, {40, 2}};
+    uint8_t *file = take(source, 348), before[348];
+    file_004(file);
+    CHECK(has_ranks(file, NULL)); /* slice_code 0 */
+    for (int code = 1; code <= 6; code++) {
+        file[122] = code;
+        for (size_t i = 0; i < sizeof stated / sizeof *stated; i++) {
+            put32(file + 132, stated[i]);
+            memcpy(before, file, 348);
+            CHECK(has_ranks(file, table[code - 1]) && memcmp(file, before, 348) == 0);
+        }
+        for (size_t i = 0; i < sizeof unstated / sizeof *unstated; i++) {
+            put32(file + 132, unstated[i]);
+            CHECK(has_ranks(file, NULL));
+        }
+        put32(file + 132, 0x3dcccccd);
+        for (size_t i = 0; i < sizeof fields / sizeof *fields; i++) {
+            memcpy(before, file, 348);
+            put16(file + fields[i].at, fields[i].value);
+            CHECK(has_ranks(file, NULL));
+            memcpy(file, before, 348);
+        }
+        file[39] = 0xcf; /* slice_dim 0 */
+        CHECK(has_ranks(file, NULL));
+        file[39] = 0xf0;
+        CHECK(has_ranks(file, table[code - 1]));
+    }
+    file[122] = 7;
+    CHECK(has_ranks(file, NULL));
+    give_back(source, file, 348);
+}
+
+/* The longest axis: all of its slices, of which each has its turn. */
+static void most_ranks(enum source source)
+{
+    static uint8_t had[32767];
+    uint8_t *file = take(source, 348);
+    header(file, 1, (const int[]){1, 32767}, 2, 8, 0);
+    file[39] = 0x10;
+    put16(file + 120, 32766);
+    put32(file + 132, 0x7f7fffff);
+    for (int code = 1; code <= 6; code++) {
+        unsigned wrong = 0;
+        file[122] = code;
+        memset(had, 0, sizeof had);
+        for (uint64_t rank = 0; rank < 32767; rank++) {
+            vestumbral_ranked answer = vestumbral_slice_of_rank(file, 348, rank);
+            wrong += answer.refusal != 0 || answer.stated != 1 || answer.slice > 32766 || had[answer.slice]++;
+        }
+        CHECK(wrong == 0);
+        CHECK(not_ranked(vestumbral_slice_of_rank(file, 348, 32767), 17, 0));
+        CHECK(not_ranked(vestumbral_slice_of_rank(file, 348, 32768), 17, 0));
+        CHECK(not_ranked(vestumbral_slice_of_rank(file, 348, UINT64_MAX), 17, 0));
+    }
+    give_back(source, file, 348);
+}
+
+/* A file that reading refuses, its timing stated and, by slice_code 0, not; a rank that it would have, and one that none has. */
+static void refuses_ranks(uint8_t *file, size_t length, uint64_t refusal, uint64_t place)
+{
+    for (int code = 0; code < 2; code++) {
+        file[122] = code;
+        CHECK(not_ranked(vestumbral_slice_of_rank(file, length, 0), refusal, place));
+        CHECK(not_ranked(vestumbral_slice_of_rank(file, length, UINT64_MAX), refusal, place));
+    }
+}
+
+/* Each refusal of reading, of document 004's file with a field changed and then with bytes behind its header. */
+static void ranks_after_reading(enum source source)
+{
+    static const struct { int at, value, refusal, place; } fields[] = {
+        {40, 0, 2, 40}, {40, 8, 2, 40}, {0, 347, 3, 0}, {344, 0x316e, 4, 344}, {42, 0, 5, 42}, {46, 0x8000, 5, 46}, {70, 1, 6, 70},
+        {72, 16, 7, 72}, {110, 0x3f00, 8, 108}, {110, 0xbf80, 8, 108}, {110, 0x7f80, 8, 108}, {110, 0x4d01, 9, 108}};
+    const size_t most = 352 + 65 * 16;
+    uint8_t *file = take(source, 348);
+    for (size_t i = 0; i < sizeof fields / sizeof *fields; i++) {
+        file_004(file);
+        put16(file + fields[i].at, fields[i].value);
+        refuses_ranks(file, 348, fields[i].refusal, fields[i].place);
+    }
+    file_004(file);
+    memcpy(file + 344, "n+1", 4);
+    put32(file + 108, 0x43b00000);
+    refuses_ranks(file, 348, 11, 108);
+    file_004(file);
+    put16(file + 42, 16384);
+    put16(file + 44, 16384);
+    put16(file + 46, 4097);
+    refuses_ranks(file, 348, 10, 40);
+    give_back(source, file, 348);
+
+    file = take(source, most);
+    memset(file, 0, most);
+    file_004(file);
+    file[348] = 1;
+    for (size_t length = 349; length < 352; length++)
+        refuses_ranks(file, length, 12, 348);
+    refuses_ranks(file, 352, 13, 352);
+    for (int i = 0; i < 65; i++)
+        put32(file + 352 + 16 * i, 16);
+    refuses_ranks(file, most, 15, 1376);
+    refuses_ranks(file, most - 24, 13, 1360);
+    put32(file + 372, 0x80000000);
+    refuses_ranks(file, 384, 14, 372);
+    give_back(source, file, most);
 }
 
 static void positions(enum source source)
@@ -1140,6 +1291,9 @@ int main(void)
         units(source, vestumbral_swap);
         units(source, vestumbral_swap_by_unit);
         slices(source);
+        ranks(source);
+        most_ranks(source);
+        ranks_after_reading(source);
         positions(source);
         pieces_of_each_length(source);
         turns(source);

@@ -1,10 +1,10 @@
 /*
  * The calls in floating-point states that are not the default: each rounding mode, with flush-to-zero and denormals-are-zero, and
- * with every exception trapped. There read, extension_at, voxel, voxel_in, both lines, both swaps, the edits, the calls for pieces
- * and a turn without sform answer as in the default state, leave the same bytes in every lent buffer, and do not touch the state:
- * their only float is the vox_offset of an edit, a multiple of 16 up to 2^27, which no state rounds. Slice times, positions and the
- * srow numbers of a turn are computed in the state, so the header asks for the default; what is printed shows what another makes of
- * one of each.
+ * with every exception trapped. There read, extension_at, voxel, voxel_in, both lines, slice_of_rank, both swaps, the edits, the
+ * calls for pieces and a turn without sform answer as in the default state, leave the same bytes in every lent buffer, and do not
+ * touch the state: the only float that they compute is the vox_offset of an edit, a multiple of 16 up to 2^27, which no state
+ * rounds. Slice times, positions and the srow numbers of a turn are computed in the state, so the header asks for the default; what
+ * is printed shows what another makes of one of each.
  */
 #include "../nifti.h"
 #include "vestumbral.h"
@@ -67,7 +67,7 @@ static uint8_t buffer[SMALL + 2 * PAYLOAD], payload[PAYLOAD], image[VOXELS], out
 /* Answers by value have no padding, so their bytes can be told; of what reading answers, up to its last member. */
 enum { FILE_BYTES = offsetof(vestumbral_file, aligned) + sizeof(uint32_t) };
 _Static_assert(sizeof(vestumbral_reply) == 32 && FILE_BYTES == 124 && sizeof(vestumbral_extension) == 32, "padding");
-_Static_assert(sizeof(vestumbral_taken) == 912 && sizeof(vestumbral_turned) == 32, "padding");
+_Static_assert(sizeof(vestumbral_taken) == 912 && sizeof(vestumbral_turned) == 32 && sizeof(vestumbral_ranked) == 24, "padding");
 
 static void look(size_t length)
 {
@@ -192,6 +192,32 @@ static void lines(void)
     }
 }
 
+/* The slices of ranks 0 to 2, and two ranks past them. By the first six durations timing is stated, by the others not: a subnormal
+ * is above zero, though some states take it for zero, and no time is computed, which by the sixth would be infinite. */
+static void ranks(void)
+{
+    static const uint32_t durations[] = {0x00000001, 0x00000c00, 0x007fffff, 0x00800000, 0x3dcccccd, 0x7f7fffff, 0x00000000,
+                                         0x80000000, 0x80000001, 0xbdcccccd, 0x7f800000, 0x7f800001, 0x7fc00000, 0xff800000};
+    static const uint64_t asked[] = {0, 1, 2, 3, UINT64_MAX};
+    for (int kind = 0; kind < 4; kind++)
+        for (size_t i = 0; i < sizeof durations / sizeof *durations; i++)
+            for (int code = 1; code <= 6; code++) {
+                size_t length = start(kind & 1, kind & 1 ? 0 : 0x43b00000);
+                buffer[39] = 1 << 4; /* dim_info */
+                put16(buffer + 120, 2); /* slice_end */
+                buffer[122] = code; /* slice_code */
+                put32(buffer + 132, durations[i]); /* slice_duration */
+                if (kind & 2)
+                    vestumbral_swap(buffer, length, image, sizeof image);
+                for (size_t k = 0; k < sizeof asked / sizeof *asked; k++) {
+                    vestumbral_ranked answer = vestumbral_slice_of_rank(buffer, length, asked[k]);
+                    if (answer.stated != (i < 6 && k < 3) || answer.refusal != (i < 6 && k >= 3 ? 17 : 0))
+                        fail("a rank is not answered as its duration asks");
+                    tell("slice_of_rank", &answer, sizeof answer);
+                }
+            }
+}
+
 /* Every turn of both kinds in both orders, as 3 x 2 x 1 voxels; sform_code is not above 0, and the srow numbers are moved alone. */
 static void turns(void)
 {
@@ -225,6 +251,7 @@ static void all(void)
     edits();
     offsets();
     lines();
+    ranks();
     turns();
     tell("payload", payload, sizeof payload);
     if (_mm_getcsr() != before)
