@@ -181,6 +181,8 @@ static void voxel_library(void) { sink = vestumbral_voxel(work, file_len, NULL, 
 static void voxel_plain(void) { sink = plain_voxel(work, file_len, NULL, 0, sink % 3, 1, 0, 0, 0, 0, 0).place; }
 static void slice_library(void) { sink = vestumbral_slice_at(work, file_len, sink % 4).rank; }
 static void slice_plain(void) { sink = plain_slice_at(work, file_len, sink % 4).rank; }
+static void ranked_library(void) { sink = vestumbral_slice_of_rank(work, file_len, sink % 4).slice; }
+static void ranked_plain(void) { sink = plain_slice_of_rank(work, file_len, sink % 4).slice; }
 static void position_library(void) { sink = vestumbral_position_of(work, file_len, sink % 3, 1, 2).x > 0; }
 static void position_plain(void) { sink = plain_position_of(work, file_len, sink % 3, 1, 2).x > 0; }
 static void swap_library(void) { sink = vestumbral_swap(work, file_len, NULL, 0).refusal; }
@@ -239,6 +241,7 @@ static void small_rows(int extensions, int big)
         {"extension_at", extension_library, extension_plain, 1, 0, 64},
         {"voxel", voxel_library, voxel_plain, 1, 0, 64},
         {"slice_at", slice_library, slice_plain, 1, 0, 64},
+        {"slice_of_rank", ranked_library, ranked_plain, 1, 0, 64},
         {"position_of", position_library, position_plain, 1, 0, 64},
         {"swap", swap_library, swap_plain, 0, 0, 64},
         {"replace", replace_library, replace_plain, 0, 1, 64},
@@ -806,12 +809,15 @@ static void compare_calls(size_t length)
     vestumbral_file f = vestumbral_read(work, length), g = plain_read(work, length);
     vestumbral_extension x = vestumbral_extension_at(work, length, n), y = plain_extension_at(work, length, n);
     vestumbral_slice s = vestumbral_slice_at(work, length, k), t = plain_slice_at(work, length, k);
+    vestumbral_ranked u = vestumbral_slice_of_rank(work, length, k), v = plain_slice_of_rank(work, length, k);
     vestumbral_position p = vestumbral_position_of(work, length, i, j, k), q = plain_position_of(work, length, i, j, k);
     if (!same_answers(&f, &g) || memcmp(&x, &y, sizeof x) != 0)
         fail("plain C reads another file or extension");
     compare_pieces(length, n);
     if (s.refusal != t.refusal || s.place != t.place || s.state != t.state || s.rank != t.rank || s.seconds != t.seconds)
         fail("plain C answers another slice");
+    if (memcmp(&u, &v, sizeof u) != 0)
+        fail("plain C answers another slice of a rank");
     if (p.refusal != q.refusal || p.place != q.place || p.x != q.x || p.y != q.y || p.z != q.z)
         fail("plain C answers another position");
     same_replies(vestumbral_voxel(work, length, images[0], image_len, i, j, k, 0, 0, 0, last),

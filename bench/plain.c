@@ -144,13 +144,30 @@ vestumbral_reply plain_line(const uint8_t *file, size_t file_len, const uint8_t 
     return (vestumbral_reply){.length = count * bytes};
 }
 
-/* A slice's turn, by its code and its distance from the first or the last slice. */
-static uint32_t rank_of(int code, int start, int end, int slice)
+/* How the slices were acquired, as far as a file states it. */
+struct timing {
+    int code, start, end, length;
+    float duration;
+};
+
+static bool is_stated(const uint8_t *file, const struct outline *o, struct timing *t)
 {
-    uint32_t n = end - start + 1, o = code % 2 == 1 ? slice - start : end - slice;
-    if (code <= 2)
+    int axis = file[39] >> 4 & 3;
+    if (axis < 1 || axis > o->dim[0])
+        return false;
+    *t = (struct timing){.code = file[122], .length = o->dim[axis], .duration = get_float(file + 132, o->big),
+                         .start = (int16_t)get16(file + 74, o->big), .end = (int16_t)get16(file + 120, o->big)};
+    return t->duration > 0 && !isinf(t->duration) && t->code >= 1 && t->code <= 6
+        && t->start >= 0 && t->start < t->end && t->end < t->length;
+}
+
+/* A slice's turn, by its code and its distance from the first or the last slice. */
+static uint32_t rank_of(const struct timing *t, int slice)
+{
+    uint32_t n = t->end - t->start + 1, o = t->code % 2 == 1 ? slice - t->start : t->end - slice;
+    if (t->code <= 2)
         return o;
-    if (code <= 4)
+    if (t->code <= 4)
         return o % 2 == 0 ? o / 2 : (n + 1) / 2 + (o - 1) / 2;
     return o % 2 == 1 ? (o - 1) / 2 : n / 2 + o / 2;
 }
@@ -158,23 +175,36 @@ static uint32_t rank_of(int code, int start, int end, int slice)
 vestumbral_slice plain_slice_at(const uint8_t *file, size_t file_len, uint64_t slice)
 {
     struct outline o;
+    struct timing t;
     if (!judge(file, file_len, 0, &o))
         return (vestumbral_slice){.refusal = o.refusal, .place = o.place};
-    int axis = file[39] >> 4 & 3, code = file[122];
-    int start = (int16_t)get16(file + 74, o.big), end = (int16_t)get16(file + 120, o.big);
-    float duration = get_float(file + 132, o.big);
-    if (axis < 1 || axis > o.dim[0] || !(duration > 0) || isinf(duration) || code < 1 || code > 6
-        || start < 0 || start >= end || end >= o.dim[axis])
+    if (!is_stated(file, &o, &t))
         return (vestumbral_slice){.state = 0};
-    if (slice >= (uint64_t)o.dim[axis])
+    if (slice >= (uint64_t)t.length)
         return (vestumbral_slice){.refusal = 17};
-    if (slice < (uint64_t)start || slice > (uint64_t)end)
+    if (slice < (uint64_t)t.start || slice > (uint64_t)t.end)
         return (vestumbral_slice){.state = 1};
-    uint32_t rank = rank_of(code, start, end, slice);
-    float seconds = rank * duration;
+    uint32_t rank = rank_of(&t, slice);
+    float seconds = rank * t.duration;
     if (isinf(seconds))
         return (vestumbral_slice){.state = 0};
     return (vestumbral_slice){.state = 2, .rank = rank, .seconds = seconds};
+}
+
+vestumbral_ranked plain_slice_of_rank(const uint8_t *file, size_t file_len, uint64_t rank)
+{
+    struct outline o;
+    struct timing t;
+    if (!judge(file, file_len, 0, &o))
+        return (vestumbral_ranked){.refusal = o.refusal, .place = o.place};
+    if (!is_stated(file, &o, &t))
+        return (vestumbral_ranked){.stated = 0};
+    uint32_t n = t.end - t.start + 1, r = rank, first = t.code <= 4 ? (n + 1) / 2 : n / 2;
+    if (rank >= n)
+        return (vestumbral_ranked){.refusal = 17};
+    if (t.code > 2) /* the even ones first, of ALT2 the odd ones */
+        r = r < first ? 2 * r + (t.code > 4) : 2 * (r - first) + (t.code <= 4);
+    return (vestumbral_ranked){.stated = 1, .slice = t.code % 2 == 1 ? t.start + r : t.end - r};
 }
 
 /* One coordinate, rounded after each operation; false where it is no number. */

@@ -15,6 +15,7 @@ vestumbral_reply plain_voxel(const uint8_t *file, size_t file_len, const uint8_t
 vestumbral_reply plain_voxel_in(vestumbral_file file, uint64_t image_len,
                                 uint64_t i1, uint64_t i2, uint64_t i3, uint64_t i4, uint64_t i5, uint64_t i6, uint64_t i7);
 vestumbral_slice plain_slice_at(const uint8_t *file, size_t file_len, uint64_t slice);
+vestumbral_ranked plain_slice_of_rank(const uint8_t *file, size_t file_len, uint64_t rank);
 vestumbral_position plain_position_of(const uint8_t *file, size_t file_len, uint64_t i, uint64_t j, uint64_t k);
 vestumbral_reply plain_swap(uint8_t *file, size_t file_len, uint8_t *image, size_t image_len);
 vestumbral_reply plain_append(uint8_t *buffer, size_t buffer_len, uint64_t file_len,
