@@ -1,6 +1,8 @@
 // The position of a voxel by Method 3, in binary32: 01-scope.md, "Slices and positions", second
 // paragraph. The rows come as the bit patterns of their numbers, as the header keeps them. An f32 is
 // made only of a pattern that was seen to be finite.
+#![tactic(auto)]
+
 ghost use Rattle.std.specs.Prelude.{◌≡◌};
 ghost use Rattle.std.specs.Float.{binary32};
 ghost use Rattle.std.specs.Float.Ieee.{of_bits};

@@ -1,6 +1,8 @@
 // The structs of the C interface, and which struct each answer of the library is (01-scope.md, "The console's old C
 // program calls the library with numbers and byte pointers"). Refusal 0 stands for success. The exports themselves are
 // the crate vestumbral.
+#![tactic(auto)]
+
 ghost use Rattle.std.specs.Prelude.{◌≡◌};
 ghost use Rattle.reader.specs.Reading.{reading_of};
 ghost use Rattle.outline.specs.Outline.{outline_of};

@@ -1,5 +1,7 @@
 // Whether a file holds its image, by rules 11 and 16, and where the region of its extensions ends (01-scope.md, "Refusal numbers"
 // and "Extensions").
+#![tactic(auto)]
+
 ghost use Rattle.std.specs.Prelude.{◌≡◌};
 ghost use Rattle.rules.specs.Rules.{is_short, cut_short, image_cut, region_end};
 

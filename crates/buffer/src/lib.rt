@@ -1,6 +1,8 @@
 // Moving bytes within a lent buffer: what the in-place edits of extensions are made of (01-scope.md, "Extensions").
 // Each function says what the whole buffer holds afterwards: `put l at e`, the old bytes l with e in place of as many
 // from `at`.
+#![tactic(auto)]
+
 ghost use Rattle.std.specs.Prelude.{◌≡◌, ◌++◌, ◌+◌, ◌-◌, ◌≤◌, length, take, drop, replicate};
 ghost use Rattle.buffer.specs.Put.{put};
 

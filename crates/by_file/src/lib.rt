@@ -1,5 +1,7 @@
 // A voxel of a file's bytes: its place, and the bytes themselves (01-scope.md, "Voxels and byte order"). Rules 1 to 15 come first, by
 // the file's outline; then the sizes give the place, by the same sum as of a record, and no record is made.
+#![tactic(auto)]
+
 ghost use Rattle.std.specs.Prelude.{◌≡◌, [], ◌∷◌, ◌+◌, ◌≤◌, length, take, drop};
 ghost use Rattle.rules.specs.Rules.{holder};
 ghost use Rattle.reader.specs.Reading.{reading_of};

@@ -1,5 +1,7 @@
 // Two bytes of a buffer as one 16-bit number: loaded, turned round, and stored. Of eight such numbers side by side the
 // compiler makes one vector, in whatever order they are stored.
+#![tactic(auto)]
+
 ghost use Rattle.std.specs.Prelude.{◌≡◌, reverse, ◌++◌, ◌+◌, ◌<◌, ◌≤◌, length, take, drop};
 ghost use Rattle.std.proofs.lemmas.List.Edits.{sets};
 ghost use Rattle.byte_pairs.specs.Pairs.{pair_at, pair_bytes};

@@ -1,6 +1,8 @@
 // Swapping the byte order of a file in place, a pair's two buffers in one call (01-scope.md, "Voxels and byte order"):
 // each number of the header, the size and code of each extension, and each swap unit of the image is turned round; all
 // else stays. Two calls do it, of which one goes unit by unit (02-change-requests.md, P3).
+#![tactic(auto)]
+
 ghost use Rattle.std.specs.Prelude.{◌≡◌};
 ghost use Rattle.outline.specs.Outline.{outline_of};
 ghost use Rattle.byteswap.specs.Swap.{Swaps};

@@ -1,5 +1,7 @@
 // The lines of the slice card that show the acquired slices, into a lent buffer (02-change-requests.md, P14). Which slice stands on a line is
 // asked of `slice_rank::ranked_by`, and nothing else is known of it than what that call promises.
+#![tactic(auto)]
+
 ghost use Rattle.std.specs.Prelude.{◌≡◌, ◌+◌, ◌*◌, ◌≤◌, length};
 ghost use Rattle.buffer.specs.Put.{put};
 ghost use Rattle.card_lines.specs.Lines.{line_text, lines_text};

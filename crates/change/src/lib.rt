@@ -1,5 +1,7 @@
 // What an edit of the extension list is, over numbers alone: what rules 18 to 21 ask, where extensions go out and how
 // many bytes come in (01-scope.md, "Extensions" and "Refusal numbers"). No file is read here.
+#![tactic(auto)]
+
 ghost use Rattle.std.specs.Prelude.{◌≡◌, min};
 ghost use Rattle.change.specs.Change.{size_for, missing_in, offers_negative, enters_bytes, too_many, named_by, slot_at};
 ghost use Rattle.change.specs.Change.{slot_of, new_size, size_cap};

@@ -1,4 +1,6 @@
 // The sixteen datatypes: "Datatype, bits, swap unit in bytes" of 01-scope.md, with the codes of source document 002.
+#![tactic(auto)]
+
 ghost use Rattle.std.specs.Prelude.{◌≡◌};
 ghost use Rattle.datatype.specs.Datatypes.{datatype_of};
 

@@ -1,4 +1,6 @@
 // Numbers in decimal, in the text that a call writes into a lent buffer (02-change-requests.md, P14: "decimal").
+#![tactic(auto)]
+
 ghost use Rattle.std.specs.Prelude.{◌≡◌, [], ◌∷◌, ◌++◌, ◌+◌, ◌≤◌, length};
 ghost use Rattle.buffer.specs.Put.{put};
 ghost use Rattle.decimal.specs.Decimal.{decimal};

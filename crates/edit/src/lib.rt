@@ -1,6 +1,8 @@
 // Editing a file's extensions in place: append, replace and remove, in a single file or a pair's header file (demand 3;
 // 01-scope.md, "Extensions", rules 18 to 22 and 24). An edit is judged whole before the first byte is stored; then one
 // function carries out all three.
+#![tactic(auto)]
+
 ghost use Rattle.std.specs.Prelude.{◌≡◌, [], ◌≤◌, pos, length, take};
 ghost use Rattle.buffer.specs.Settled.{settled};
 ghost use Rattle.edit_plan.specs.Fresh.{fresh_of};

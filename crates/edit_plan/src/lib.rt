@@ -1,5 +1,7 @@
 // Whether an edit of the extensions is refused, and the numbers that it is carried out by (01-scope.md, "Extensions",
 // rules 18 to 22). Nothing is stored here: an edit is judged whole before its first byte is.
+#![tactic(auto)]
+
 ghost use Rattle.std.specs.Prelude.{◌≡◌};
 ghost use Rattle.refusal.specs.Table.{refusal};
 ghost use Rattle.outline.specs.Outline.{outline_of};

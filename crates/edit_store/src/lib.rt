@@ -1,5 +1,7 @@
 // The stores of an edit, each of which writes one part of the fresh file: the stored extension, the extender, and a
 // single file's voxel offset (01-scope.md, "Extensions"). What is stored where is planned before (edit_plan).
+#![tactic(auto)]
+
 ghost use Rattle.std.specs.Prelude.{◌≡◌, ◌+◌, ◌≤◌, length, set};
 ghost use Rattle.field.specs.Numbers.{joined};
 ghost use Rattle.offset.specs.Offset.{offset_limit};

@@ -1,5 +1,7 @@
 // A record's 348 bytes, stored at the front of a buffer. 01-scope.md: the writer "writes 348 and the kind's magic, and
 // doesn't read the spans"; all other fields are written as the record has them.
+#![tactic(auto)]
+
 ghost use Rattle.std.specs.Prelude.{◌≡◌, ◌<◌};
 ghost use Rattle.std.proofs.lemmas.List.Edits.{sets};
 ghost use Rattle.field.specs.Numbers.{padded, u32s_bytes, i16s_bytes};

@@ -1,5 +1,7 @@
 // A file's extensions: a walker that moves on one extension at a time (01-scope.md, "Extensions", rules 13, 14 and 15).
 // Payload bytes are not read. The crate listing lists them all.
+#![tactic(auto)]
+
 ghost use Rattle.std.specs.Prelude.{◌≡◌, ◌+◌, ◌<◌, ◌≤◌, length};
 ghost use Rattle.refusal.specs.Table.{refusal};
 ghost use Rattle.extension.specs.Walk.{size_rule, found_by, found, step_from, step_of, first_place};

@@ -1,6 +1,8 @@
 // Numbers of one, two and four bytes in a file's byte order, read from a slice (source document 003 for the widths). A
 // number is read where all its bytes are, and no place is tested; of a byte, and of bytes that are copied out, those past
 // the end are 0.
+#![tactic(auto)]
+
 ghost use Rattle.std.specs.Prelude.{◌≡◌, ◌+◌, ◌*◌, ◌/◌, ◌%◌, ◌<◌, ◌≤◌, length, get_or};
 ghost use Rattle.std.specs.Int.{w16, w32};
 ghost use Rattle.std.proofs.Common.{to_z, of_z};

@@ -1,6 +1,8 @@
 // Gathering voxels from places that lie in a grid, each axis with a step of its own: what turning a volume is made of.
 // Whatever the order in which the voxels are copied, each promise is that of the plain order. A function that writes one
 // block behind another answers the place behind its own, so that the caller multiplies no sizes.
+#![tactic(auto)]
+
 ghost use Rattle.std.specs.Prelude.{◌≡◌, [], ◌∷◌, true, ℕ, ◌+◌, ◌-◌, ◌*◌, ◌≤◌, ◌<◌, length, take};
 ghost use Rattle.buffer.specs.Put.{put};
 ghost use Rattle.gather_row.specs.Gather.{reach, gathered, Inside};

@@ -1,6 +1,8 @@
 // Gathering voxels along one axis, each a step from the one before: the rows of which the crate `gather` makes volumes.
 // Whatever the order in which the voxels are copied, each promise is that of the plain order. A function that writes one
 // block behind another answers the place behind its own, so that the caller multiplies no sizes.
+#![tactic(auto)]
+
 ghost use Rattle.std.specs.Prelude.{◌≡◌, [], ◌∷◌, ◌+◌, ◌*◌, ◌≤◌, ◌<◌, length, take, drop};
 ghost use Rattle.buffer.specs.Put.{put};
 ghost use Rattle.gather_row.specs.Gather.{reach, gathered, Inside};

@@ -1,5 +1,7 @@
 // An image's axes, as the header's dim states them: which entry is below 1, the image's bytes, and the lengths of the seven axes.
 // Where dim is a slice, dim[i] is 0 past its end, and n is the number of axes, dim[0].
+#![tactic(auto)]
+
 ghost use Rattle.std.specs.Prelude.{◌≡◌, ◌<◌, ◌≤◌, get_or};
 ghost use Rattle.number.specs.Natural.{natural_of};
 ghost use Rattle.grid.specs.Axes.{dim_at, first_below, image_bytes, capped, seven_axes};

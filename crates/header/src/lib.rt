@@ -2,6 +2,8 @@
 // bits, so that a NaN's payload survives (01-scope.md, "The record has all fields"). Grouped in file order; the dims,
 // the extension spans, the image's sizes (02-change-requests.md, P4), whether the voxel offset is a multiple of 16 (P6), the
 // byte order and the kind of file stand at the top.
+#![tactic(auto)]
+
 ghost use Rattle.std.specs.Prelude.{◌≡◌, ◌+◌, ◌<◌, ◌≤◌, length};
 ghost use Rattle.field.specs.Numbers.{bytes_at, u32s_at, i16s_at};
 ghost use Rattle.header.specs.Fields.{header_of, key_of, intent_of, scale_of, display_of, quatern_of, rows_of};

@@ -1,5 +1,7 @@
 // Copies a header: takes the record of the file on standard input and writes the 348 bytes that the record states
 // (01-scope.md, "The writer takes any record"). Of a refused file, or one longer than 65536 bytes, it writes nothing.
+#![tactic(auto)]
+
 use libc::{STDIN_FILENO, STDOUT_FILENO};
 use refusal::Verdict;
 

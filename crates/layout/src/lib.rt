@@ -1,6 +1,8 @@
 // The layout of a file, by rules 1 to 12: its byte order, its kind and where its image is (01-scope.md, "Refusal
 // numbers", "The header rules"). Of a file's bytes the header is enough, with its length beside them. Also what its extender
 // says (02-change-requests.md, P2).
+#![tactic(auto)]
+
 ghost use Rattle.std.specs.Prelude.{◌≡◌, true, [], ◌∷◌, ℕ, ◌<◌, ◌≤◌, min, length};
 ghost use Rattle.field.specs.declared.Order.TheVariants.{Little};
 ghost use Rattle.field.specs.Numbers.{bytes_at, little_value, u32_at};

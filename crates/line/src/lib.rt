@@ -1,6 +1,8 @@
 // A line of voxels, all those along one axis through a given voxel, into the front of a lent buffer (02-change-requests.md, P7): of a file's bytes,
 // and of a record that was read before with the file's bytes, for a window that draws many lines. Each by two engines, and all on
 // `line_copy::line_at`.
+#![tactic(auto)]
+
 ghost use Rattle.std.specs.Prelude.{◌≡◌, [], ◌∷◌};
 ghost use Rattle.outline.specs.Outline.{outline_of};
 ghost use Rattle.line.specs.Lines.{CopiesRecord, Lines};

@@ -1,5 +1,7 @@
 // Copying a line of voxels into the front of a lent buffer, by the sizes that a record keeps (02-change-requests.md, P7). Two engines do it:
 // one adds the step of the axis, the other locates each voxel. Both leave the same bytes.
+#![tactic(auto)]
+
 ghost use Rattle.std.specs.Prelude.{◌≡◌, [], ◌∷◌, ◌+◌, ◌≤◌, length};
 ghost use Rattle.buffer.specs.Put.{put};
 ghost use Rattle.gather_row.specs.Gather.{gathered, Inside};

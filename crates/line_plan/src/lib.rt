@@ -1,5 +1,7 @@
 // A line of voxels, all those along one axis through a given voxel (02-change-requests.md, P7): its rules, and where its voxels are,
 // by the sizes that a record keeps.
+#![tactic(auto)]
+
 ghost use Rattle.std.specs.Prelude.{◌≡◌, false, ◌-◌, ◌≤◌, length, get_or};
 ghost use Rattle.refusal.specs.Table.{verdict, decided};
 ghost use Rattle.grid.specs.Axes.{seven_axes};

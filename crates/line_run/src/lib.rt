@@ -1,5 +1,7 @@
 // Lines along an axis, through the first voxels of axis 1 one after the other, by the record of one reading (02-change-requests.md, P7: a
 // window that draws many lines). Made for the benchmark.
+#![tactic(auto)]
+
 ghost use Rattle.std.specs.Prelude.{◌≡◌};
 ghost use Rattle.line_run.specs.Drawn.{bytes_of, most_in, out_in, most, out_after};
 

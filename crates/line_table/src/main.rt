@@ -5,6 +5,8 @@
 // Standard input is a single file of 3 × 2 × 2 × 2 voxels with the 16-bit values 0 to 23, little-endian. It is made in tests/ by
 //   python3 -c 'import struct, sys; from nifti import *; sys.stdout.buffer.write(header(dim=(4, 3, 2, 2, 2)) + NONE
 //       + struct.pack("<24h", *range(24)))' > ../crates/line_table/stdin
+#![tactic(auto)]
+
 use buffer::Filled;
 use libc::{STDIN_FILENO, STDOUT_FILENO};
 use line_copy::Engine;

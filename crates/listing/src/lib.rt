@@ -1,5 +1,7 @@
 // The list of a file's extensions, made by walking over them (01-scope.md, "Extensions"; "spans past the count are zeros");
 // and, for whoever keeps no list, how many there are and one of them.
+#![tactic(auto)]
+
 ghost use Rattle.std.specs.Prelude.{◌≡◌, [], ◌+◌, ◌≤◌, length};
 ghost use Rattle.field.specs.Numbers.{i32_at};
 ghost use Rattle.extension.specs.Walk.{first_place, span, extensions_in};

@@ -1,6 +1,8 @@
 // Prints what reading a file answered, as 01-scope.md lists it ("Numbers on each side") with the line that P6 of
 // 02-change-requests.md adds, for the programs that list a file.
 // What it prints is tested and not proved.
+#![tactic(auto)]
+
 use extension::{LIMIT, Span};
 use field::Order;
 use header::{Header, Kind};

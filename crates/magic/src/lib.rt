@@ -1,5 +1,7 @@
 // What the writer stores of its own (01-scope.md: it "writes 348 and the kind's magic"): the header's size at its front,
 // and at its end the magic, n+1 of a single file and ni1 of a pair.
+#![tactic(auto)]
+
 ghost use Rattle.std.specs.Prelude.{◌≡◌, get_or};
 ghost use Rattle.std.proofs.lemmas.List.Edits.{sets};
 ghost use Rattle.field.specs.Numbers.{bytes_of};

@@ -1,5 +1,7 @@
 // Lists the NIfTI-1 file that is on standard input (01-scope.md, "Numbers on each side"). What a file is, the reader
 // says; here it is only printed.
+#![tactic(auto)]
+
 use libc::STDIN_FILENO;
 
 // The longest file that is listed.

@@ -1,5 +1,7 @@
 // Small numbers' tools that several crates share: the lesser and the greater of two, their difference, and a signed
 // number as a length.
+#![tactic(auto)]
+
 ghost use Rattle.std.specs.Prelude.{◌≡◌, ◌-◌, ◌≤◌, min, max};
 ghost use Rattle.number.specs.Natural.{natural_of};
 

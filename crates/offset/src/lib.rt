@@ -1,5 +1,7 @@
 // The voxel offset of a header (vox_offset), a binary32: from its 32 bits to a whole number, by
 // integers alone, and back. The rules named are those of 01-scope.md.
+#![tactic(auto)]
+
 ghost use Rattle.std.specs.Prelude.{◌≡◌};
 ghost use Rattle.offset.specs.Offset.{offset_of, whole_in, says_aligned, offset_bits};
 

@@ -1,5 +1,7 @@
 // The outline of a file: rules 1 to 15 judged as reading judges them, with no record made (01-scope.md, "A file is accepted
 // when none of 1..15 holds of its bytes"). The calls that want little of a file answer from it; the crate reader makes the record.
+#![tactic(auto)]
+
 ghost use Rattle.std.specs.Prelude.{◌≡◌, true, ◌≤◌, min, length};
 ghost use Rattle.layout.specs.File.{checked_of};
 ghost use Rattle.listing.specs.Scan.{scan_of};

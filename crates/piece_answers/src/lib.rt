@@ -1,5 +1,7 @@
 // The C interface's structs for a file that comes in pieces, and which struct each answer of the piece reader is
 // (02-change-requests.md, P1). The state goes through C as it is. The exports themselves are the crate vestumbral.
+#![tactic(auto)]
+
 ghost use Rattle.std.specs.Prelude.{◌≡◌, ◌≤◌, get_or};
 ghost use Rattle.extension.specs.Walk.{extension_limit};
 ghost use Rattle.answers.specs.Answers.{shown_file, file_answer, extension_shown, extension_answer};

@@ -1,5 +1,7 @@
 // Reads the NIfTI-1 file that is on standard input, of any length, for the programs that take one: at most 256 bytes are read at a time, and
 // none is kept but what the piece reader keeps (02-change-requests.md, P1). No contract says what a read brings.
+#![tactic(auto)]
+
 use libc::STDIN_FILENO;
 use pieces::Pieces;
 use reader::Reading;

@@ -1,6 +1,8 @@
 // The reading of a file that comes in pieces (02-change-requests.md, P1): "However the file is cut, its answer is that of
 // the whole-file reader on the joined bytes, place included." Rules 1 to 12 are judged by the first 352 bytes and the
 // length, and rules 13 to 15 by what stands where the walk has come to. Any state gets an answer.
+#![tactic(auto)]
+
 ghost use Rattle.std.specs.Prelude.{◌≡◌, ◌≤◌, length, take};
 ghost use Rattle.extension.specs.Walk.{extension_limit, first_place};
 ghost use Rattle.extension.specs.Listing.{spans_of};

@@ -1,6 +1,8 @@
 // The walk over a file's extensions where the file comes in pieces (02-change-requests.md, P1): how far the bytes so far
 // take it. It passes an extension when that has come whole, and not before. Payload bytes are not read, and of the
 // extension that is coming its first eight are kept.
+#![tactic(auto)]
+
 ghost use Rattle.std.specs.Prelude.{◌≡◌, ◌+◌, ◌<◌, length};
 ghost use Rattle.piece_walk.specs.Marks.{mark_of};
 ghost use Rattle.piece_walk.specs.Window.{window_byte, window};

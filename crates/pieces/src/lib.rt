@@ -1,6 +1,8 @@
 // A file that comes in pieces of any length (02-change-requests.md, P1): what is kept of it, and what a piece does to that.
 // Kept are its first 352 bytes, size and code of the extensions that have come whole and the first eight bytes of the next
 // one; payload and voxels are skipped. The state is a value. The crate piece_reader says what it reads as.
+#![tactic(auto)]
+
 ghost use Rattle.std.specs.Prelude.{◌≡◌, ◌+◌, ◌≤◌, length};
 ghost use Rattle.layout.specs.File.{order_of};
 ghost use Rattle.pieces.specs.Pieces.{passes_total, front_with, end_by, end_in, is_skipped, read_on, fresh, taken_of};

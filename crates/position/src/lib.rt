@@ -1,5 +1,7 @@
 // Positions, by the fields that Method 3 reads or by a record: 01-scope.md, "Slices and positions", second paragraph. The
 // binary32 arithmetic is that of the crate affine; here stand rules 17 and 23, and which comes first.
+#![tactic(auto)]
+
 ghost use Rattle.std.specs.Prelude.{◌≡◌, true, [], ◌∷◌, ◌≤◌};
 ghost use Rattle.grid.specs.Grid.{within};
 ghost use Rattle.position.specs.Positions.{length_at, three_axes, SmallIndex, position_by, sform_of, position_in};

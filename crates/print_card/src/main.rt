@@ -1,4 +1,6 @@
 // Prints the slice card of the NIfTI-1 file that is on standard input, of any length, or its refusal (02-change-requests.md, P14).
+#![tactic(auto)]
+
 use buffer::Filled;
 use reader::Reading;
 

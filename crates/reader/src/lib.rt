@@ -1,4 +1,6 @@
 // The reader: a file's verdict by rules 1 to 15, and its record (01-scope.md, "Refusal numbers", "Extensions").
+#![tactic(auto)]
+
 ghost use Rattle.std.specs.Prelude.{◌≡◌};
 ghost use Rattle.extension.specs.Listing.{listing_of};
 ghost use Rattle.layout.specs.File.{checked_of};

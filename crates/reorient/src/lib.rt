@@ -1,4 +1,6 @@
 // A turn of a volume, and the image that it makes (02-change-requests.md, P10).
+#![tactic(auto)]
+
 ghost use Rattle.std.specs.Prelude.{◌≡◌, true, false, ◌+◌, ◌*◌, ◌≤◌, ◌<◌, length, drop, get_or};
 ghost use Rattle.buffer.specs.Put.{put};
 ghost use Rattle.grid.specs.Grid.{voxels};

@@ -1,4 +1,6 @@
 // The bytes of a turned file and of a pair's turned image file (02-change-requests.md, P10), each to the front of a lent buffer.
+#![tactic(auto)]
+
 ghost use Rattle.std.specs.Prelude.{◌≡◌, true, false, ◌+◌, ◌≤◌, length, drop};
 ghost use Rattle.buffer.specs.Put.{put};
 ghost use Rattle.voxel.specs.Voxel.{lengths_of, voxel_bytes};

@@ -1,5 +1,7 @@
 // The record of a turned file (02-change-requests.md, P10): dims, pixdims and the sform's rows as the new axes have them, and
 // qform_code, dim_info and slice_code 0.
+#![tactic(auto)]
+
 ghost use Rattle.std.specs.Prelude.{◌≡◌, true, false};
 ghost use Rattle.reorient.specs.Reorient.{is_permutation};
 ghost use Rattle.reorient_header.specs.After.{dims_after, pixdims_after, length_in, rows_after, finite_rows_after};

@@ -1,5 +1,7 @@
 // A row of the sform under a turn of the volume (02-change-requests.md, P10), in binary32. The row comes and goes as the bit
 // patterns of its numbers, as the header keeps them; an f32 is made only of a pattern that was seen to be finite.
+#![tactic(auto)]
+
 ghost use Rattle.std.specs.Prelude.{◌≡◌, true, ◌&&◌, [], ◌∷◌, ◌-◌, ◌≤◌};
 ghost use Rattle.std.specs.Float.Ieee.Scale.{finite};
 ghost use Rattle.reorient.specs.Reorient.{is_permutation};

@@ -1,5 +1,7 @@
 // Rules 5 to 10 of the refusal table: what is judged of a header's fields alone, for the reader and for the writer
 // (01-scope.md, "Refusal numbers" and "The header rules").
+#![tactic(auto)]
+
 ghost use Rattle.std.specs.Prelude.{◌≡◌, true, ◌≤◌};
 ghost use Rattle.number.specs.Natural.{natural_of};
 ghost use Rattle.datatype.specs.Datatypes.{datatype_of, is_number};

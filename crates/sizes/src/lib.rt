@@ -1,5 +1,7 @@
 // The sizes of an image (02-change-requests.md, P4): what dims and a voxel's bits give, whether two are the same, and how many bytes
 // they put before a voxel.
+#![tactic(auto)]
+
 ghost use Rattle.std.specs.Prelude.{◌≡◌, false, cond, ◌*◌, ◌/◌, ◌≤◌, ltb, length};
 ghost use Rattle.number.specs.Natural.{natural_of};
 ghost use Rattle.number.specs.Same.{same_numbers};

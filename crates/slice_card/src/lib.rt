@@ -1,5 +1,7 @@
 // The head console's slice card (02-change-requests.md, P14). It stands above the library and knows it by its promises alone: those of
 // reading, of the slice of a rank (P8), and of whether timing is stated, how many slices were acquired and how many the axis has.
+#![tactic(auto)]
+
 ghost use Rattle.std.specs.Prelude.{◌≡◌, [], ◌∷◌, ◌++◌, ◌+◌, ◌≤◌, length};
 ghost use Rattle.buffer.specs.Put.{put};
 ghost use Rattle.buffer.specs.Fill.{Fills};

@@ -1,6 +1,8 @@
 // The slice of a rank, worked out and not looked for: 02-change-requests.md, P8, "A call finds the slice again from a rank". Whether
 // timing is stated, and whether the rank is below the number of acquired slices, is for the caller to say. Each function is the
 // inverse of one of the crate slices, and says so by that one's definition.
+#![tactic(auto)]
+
 ghost use Rattle.std.specs.Prelude.{◌≡◌, ◌<◌, ◌≤◌};
 ghost use Rattle.slices.specs.Ranks.{count_of, order_in, alt_rank, alt2_rank, rank_of};
 ghost use Rattle.slice_order.specs.Slices.{slice_with};

@@ -1,6 +1,8 @@
 // A slice, the slice of a rank and a position of a file's bytes (01-scope.md, "Slices and positions"; 02-change-requests.md, P8). Rules 1 to
 // 15 come first, by the file's outline; then the crates timing, slice_rank and position answer by the fields that they ask for,
 // and no record is made.
+#![tactic(auto)]
+
 ghost use Rattle.std.specs.Prelude.{◌≡◌, ◌≤◌, length};
 ghost use Rattle.slice_position.specs.Files.{acquisition_in, slice_of, ranked_of, sform_in, position_at};
 

@@ -1,5 +1,7 @@
 // The slice of a rank, by the fields that state timing or by a record: 02-change-requests.md, P8, "A call finds the slice again from a rank".
 // How a rank is worked out is for the crate slices, and its slice for slice_order; here stands which answer comes before which.
+#![tactic(auto)]
+
 ghost use Rattle.std.specs.Prelude.{◌≡◌, ◌≤◌};
 ghost use Rattle.timing.specs.Slices.{is_stated};
 ghost use Rattle.slice_rank.specs.Ranked.{acquired_count, ranked_by, ranked_in};

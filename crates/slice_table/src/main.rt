@@ -2,6 +2,8 @@
 // slices of all ranks; the same where timing is unstated and where times are infinite; the ranks of an even number of slices,
 // which no document has; and positions, of which the first shows the order of the
 // roundings. The files are pairs' header files, made here. What is to be printed stands in the file stdout.
+#![tactic(auto)]
+
 ghost use Rattle.std.specs.Prelude.{◌≡◌, true, ◌<◌};
 ghost use Rattle.std.specs.Float.Ieee.Scale.{finite};
 

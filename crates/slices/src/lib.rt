@@ -1,5 +1,7 @@
 // Slice ranks and slice times: 01-scope.md, "Slices and positions", first paragraph. Whether timing is
 // stated, and whether a slice is padding, is for the caller to say.
+#![tactic(auto)]
+
 ghost use Rattle.std.specs.Prelude.{◌≡◌, true, ◌<◌, ◌≤◌};
 ghost use Rattle.std.specs.Float.{binary32};
 ghost use Rattle.std.specs.Float.Ieee.{of_bits};

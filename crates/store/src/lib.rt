@@ -1,5 +1,7 @@
 // Stores of bytes, and of numbers of two and four bytes in a byte order, over a slice (source document 003 for the
 // widths). They are total: a store past the end does nothing, so that no caller proves a length.
+#![tactic(auto)]
+
 ghost use Rattle.std.specs.Prelude.{◌≡◌, ◌+◌, ◌*◌, ◌<◌, get_or, set, pos};
 ghost use Rattle.std.proofs.lemmas.List.Edits.{sets};
 ghost use Rattle.std.specs.Int.{w16, w32};

@@ -1,5 +1,7 @@
 // Slice timing, by the fields that state it or by a record: 01-scope.md, "Slices and positions", first paragraph. How a rank
 // and a time are worked out is for the crate slices; here stand when timing is stated, and which answer comes before which.
+#![tactic(auto)]
+
 ghost use Rattle.std.specs.Prelude.{◌≡◌, true, ◌≤◌, ◌<◌};
 ghost use Rattle.std.specs.Float.{binary32};
 ghost use Rattle.std.specs.Float.Ieee.{of_bits};

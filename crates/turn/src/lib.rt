@@ -1,5 +1,7 @@
 // Turning a volume (02-change-requests.md, P10): a new file in a second buffer with axes 1 to 3 permuted and any of the old ones
 // reversed, and a pair's new image file in a third.
+#![tactic(auto)]
+
 ghost use Rattle.std.specs.Prelude.{◌≡◌, length};
 ghost use Rattle.refusal.specs.Table.{verdict};
 ghost use Rattle.outline.specs.Outline.{outline_of};

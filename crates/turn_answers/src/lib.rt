@@ -1,4 +1,6 @@
 // A turn of a volume as the C interface has it: numbers for the turn, and a struct of numbers for the answer.
+#![tactic(auto)]
+
 ghost use Rattle.std.specs.Prelude.{◌≡◌};
 ghost use Rattle.turn_answers.specs.Answers.{turn_of, turned_answer};
 

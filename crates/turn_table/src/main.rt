@@ -9,6 +9,8 @@
 //       h[39] = 57; h[122] = 3; struct.pack_into("<4f", h, 76, 1, 1, 2, 3); struct.pack_into("<2h", h, 252, 1, 1);
 //       struct.pack_into("<12f", h, 280, 2, 0, 0, 10, 0, 3, 0, -20, 0, 0, 4, 30);
 //       sys.stdout.buffer.write(h + SOME + extension() + bytes(range(12)) + bytes([200, 201, 202]))' > ../crates/turn_table/stdin
+#![tactic(auto)]
+
 use libc::{STDIN_FILENO, STDOUT_FILENO};
 use turn::Turned;
 

@@ -1,5 +1,7 @@
 // What a swap turns round beside the header: the size and code of each extension, and the units of the image
 // (01-scope.md, "Voxels and byte order"). The file was accepted before; it is not judged here.
+#![tactic(auto)]
+
 ghost use Rattle.std.specs.Prelude.{◌≡◌, ◌+◌, ◌/◌, ◌≤◌, length, drop};
 ghost use Rattle.extension.specs.Walk.{first_place};
 ghost use Rattle.units.specs.Units.{turned_at};

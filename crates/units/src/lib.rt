@@ -1,6 +1,8 @@
 // Turning units round in place: units of any width, and the numbers of a header. This carries out "Swapping turns round
 // each 2- or 4-byte header field, unused numbers included, ... and each swap unit of the image. All else stays"
 // (01-scope.md, "Voxels and byte order").
+#![tactic(auto)]
+
 ghost use Rattle.std.specs.Prelude.{◌≡◌, ◌+◌, ◌*◌, ◌≤◌, length};
 ghost use Rattle.units.specs.Units.{turned_at};
 ghost use Rattle.units.specs.Runs.{turn_runs_at, header_runs};

@@ -1,6 +1,8 @@
 // The console's C interface: numbers and byte pointers in, structs of numbers back by value (01-scope.md, "The
 // console's old C program calls the library with numbers and byte pointers"). A thin layer: each export asks one call
 // of the library and puts its answer into a struct of the crate answers.
+#![tactic(auto)]
+
 ghost use Rattle.std.specs.Prelude.{◌≡◌, [], ◌∷◌, pos, length};
 ghost use Rattle.reader.specs.Reading.{reading_of};
 ghost use Rattle.by_file.specs.Files.{located_of};

@@ -1,5 +1,7 @@
 // Where a voxel's bytes are, by the sizes that a record keeps (02-change-requests.md, P4; 01-scope.md, "Voxels and byte order"): no dims are
 // multiplied. An index is seven numbers, and any unsigned number is taken.
+#![tactic(auto)]
+
 ghost use Rattle.std.specs.Prelude.{◌≡◌, [], ◌∷◌, ◌<◌, length};
 ghost use Rattle.voxel.specs.Steps.{volume, strays_by, no_axes, stepped_by, misplaced_by, stepped_in};
 

@@ -1,5 +1,7 @@
 // A voxel of a file that was read before, by the C interface's struct of the file (02-change-requests.md, P4): what its numbers stand for.
 // The export itself, in the crate vestumbral, lends the struct's dims and steps, so that they are not copied.
+#![tactic(auto)]
+
 ghost use Rattle.std.specs.Prelude.{◌≡◌};
 ghost use Rattle.voxel_answers.specs.Answers.{kind_by, own_refusal};
 

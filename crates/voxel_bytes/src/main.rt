@@ -8,6 +8,8 @@
 // It is made in tests/ by
 //   python3 -c 'import struct, sys; from nifti import *; sys.stdout.buffer.write(FILE_A + header(">", PAIR, offset=5.0)
 //       + b"\xff" * 5 + struct.pack(">6h", *range(10, 16)))' > ../crates/voxel_bytes/stdin
+#![tactic(auto)]
+
 use libc::{STDIN_FILENO, STDOUT_FILENO};
 
 const SINGLE_END: usize = 364;

@@ -1,6 +1,8 @@
 // The first voxels of axis 1, located one after the other: by the record of one reading, and by the file, which is read
 // for each (01-scope.md, "Voxels and byte order": "One call answers the place and length, or the refusal"). Made for
 // the benchmark, whose two rows so answer the same number.
+#![tactic(auto)]
+
 ghost use Rattle.std.specs.Prelude.{◌≡◌};
 ghost use Rattle.voxel_run.specs.Farthest.{place_of, farthest_in, farthest};
 

@@ -1,5 +1,7 @@
 // Blocks of units that are turned round in place together: what the loops of the crate word_turns do at each turn. How many
 // bytes go together, and by which instructions, is for speed alone.
+#![tactic(auto)]
+
 ghost use Rattle.std.specs.Prelude.{◌≡◌, ◌+◌, ◌/◌, ◌≤◌, length};
 ghost use Rattle.units.specs.Units.{turned_at};
 ghost use Rattle.word_blocks.specs.Blocks.{Wide};

@@ -1,6 +1,8 @@
 // Turning many units round, several together: "Turn four units round together while at least eight image bytes are left, and
 // finish the rest singly" (02-change-requests.md, P3), and wider units the same way. What is promised is what
 // `units::turn_units` promises, which goes unit by unit.
+#![tactic(auto)]
+
 ghost use Rattle.std.specs.Prelude.{◌≡◌, ◌+◌, ◌*◌, ◌≤◌, length};
 ghost use Rattle.units.specs.Units.{turned_at};
 ghost use Rattle.word_blocks.specs.Blocks.{Wide};

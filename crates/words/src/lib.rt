@@ -1,5 +1,7 @@
 // Eight bytes of a buffer as one 64-bit word: loaded, its units turned round all at once, and stored. This is what "Turn four
 // units round together" comes to (02-change-requests.md, P3); units of four and of eight bytes go the same way.
+#![tactic(auto)]
+
 ghost use Rattle.std.specs.Prelude.{◌≡◌, ◌+◌, ◌<◌, ◌≤◌, length, get_or};
 ghost use Rattle.std.proofs.lemmas.List.Edits.{sets};
 ghost use Rattle.words.specs.Words.{word_at, word_bytes, turned_word, Fills};

@@ -1,5 +1,7 @@
 // The writer: a record's 348 bytes at the front of a lent buffer, or the refusal (01-scope.md, "The writer takes any
 // record"; 02-change-requests.md, P4 and P6).
+#![tactic(auto)]
+
 ghost use Rattle.std.specs.Prelude.{◌≡◌, length};
 ghost use Rattle.rules.specs.Rules.{shape_of_record, aligned_in, wrong_facts, Measured};
 ghost use Rattle.writer.specs.Write.{write_answer, written};

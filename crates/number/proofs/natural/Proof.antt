@@ -6,7 +6,7 @@ use Rattle.number.proofs.Naturals.{natural_negative, natural_same}
 use Rattle.number.proofs.natural.Statement.{statement}
 use Rattle.number.proofs.natural.Tie as tie
 
-cast-result : tie.Need-overflow-cast-result
+cast-result : tie.Need-overflow_cast-result
 cast-result c =
     let f = c.before.ranges.z in
     let p = natural_same w16 c.before.args.z f c.if1.false in
