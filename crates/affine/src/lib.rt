@@ -10,7 +10,7 @@ ghost use Rattle.std.specs.Float.Ieee.Scale.{finite};
 ghost use Rattle.affine.specs.Method.{row_of, results_of, finite_results, finite_row, NoNan, srow_of, position_of};
 
 // A position: its three values together.
-#[derive(Drop)]
+#[derive(Clone, Copy)]
 pub struct Position {
     pub x: f32,
     pub y: f32,
@@ -18,7 +18,7 @@ pub struct Position {
 }
 
 // The twelve numbers of srow_x, srow_y and srow_z.
-#[derive(Drop)]
+#[derive(Clone, Copy)]
 pub struct Srow {
     pub x0: f32,
     pub x1: f32,
@@ -35,7 +35,7 @@ pub struct Srow {
 }
 
 // The answer: a position, or that there is none, which is refusal 23.
-#[derive(Drop)]
+#[derive(Clone, Copy)]
 pub enum Placed {
     At(Position),
     NoPosition,

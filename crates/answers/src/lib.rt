@@ -23,7 +23,7 @@ use voxel::Located;
 
 // The answer of voxel, swap, edit and of what fills a lent buffer; `aligned` is said by an edit alone.
 #[repr(C)]
-#[derive(Drop)]
+#[derive(Clone, Copy)]
 pub struct Reply {
     pub refusal: u64,
     pub place: u64,
@@ -33,7 +33,7 @@ pub struct Reply {
 
 // What reading a file answers.
 #[repr(C)]
-#[derive(Drop)]
+#[derive(Clone, Copy)]
 pub struct FileAnswer {
     pub refusal: u64,
     pub place: u64,
@@ -51,7 +51,7 @@ pub struct FileAnswer {
 
 // One extension.
 #[repr(C)]
-#[derive(Drop)]
+#[derive(Clone, Copy)]
 pub struct ExtensionAnswer {
     pub refusal: u64,
     pub place: u64,
@@ -62,7 +62,7 @@ pub struct ExtensionAnswer {
 
 // One slice: state 0 unstated, 1 padding, 2 timed.
 #[repr(C)]
-#[derive(Drop)]
+#[derive(Clone, Copy)]
 pub struct SliceAnswer {
     pub refusal: u64,
     pub place: u64,
@@ -73,7 +73,7 @@ pub struct SliceAnswer {
 
 // The slice of a rank: stated 0 where timing is unstated.
 #[repr(C)]
-#[derive(Drop)]
+#[derive(Clone, Copy)]
 pub struct RankedAnswer {
     pub refusal: u64,
     pub place: u64,
@@ -83,7 +83,7 @@ pub struct RankedAnswer {
 
 // A position.
 #[repr(C)]
-#[derive(Drop)]
+#[derive(Clone, Copy)]
 pub struct PositionAnswer {
     pub refusal: u64,
     pub place: u64,

@@ -9,7 +9,7 @@ ghost use Rattle.buffer.specs.Put.{put};
 use refusal::Refusal;
 
 // What a call that fills the front of a lent buffer answers: the bytes written, or the refusal (specs/Fill.antt).
-#[derive(Drop)]
+#[derive(Clone, Copy)]
 pub enum Filled {
     Written(usize),
     Refused(Refusal),

@@ -12,7 +12,7 @@ use extension::{FIRST, LIMIT, Span};
 const CAP: usize = 134_217_744;
 
 // Which edit: after the last extension, in the place of a numbered one (the first is 0), or taking that one out.
-#[derive(Drop)]
+#[derive(Clone, Copy)]
 pub enum Change {
     Append,
     Replace(usize),
@@ -20,7 +20,7 @@ pub enum Change {
 }
 
 // Where extensions go out, and how many bytes.
-#[derive(Drop)]
+#[derive(Clone, Copy)]
 pub struct Slot {
     pub at: usize,
     pub old: usize,

@@ -6,14 +6,14 @@ ghost use Rattle.datatype.specs.Datatypes.{datatype_of};
 
 // How a voxel is stored: its bits, as bitpix states them, its bytes, and the swap unit, that is how many bytes are
 // turned round together when the byte order changes.
-#[derive(Drop)]
+#[derive(Clone, Copy)]
 pub struct Format {
     pub bits: i16,
     pub bytes: u64,
     pub unit: usize,
 }
 
-#[derive(Drop)]
+#[derive(Clone, Copy)]
 pub enum Datatype {
     Known(Format),
     Unknown,

@@ -15,14 +15,14 @@ use extension::FIRST;
 use refusal::Refusal;
 
 // What is known of the file after an edit: its length, and whether its voxel offset is aligned (02-change-requests.md, P6).
-#[derive(Drop)]
+#[derive(Clone, Copy)]
 pub struct NewFile {
     pub length: usize,
     pub aligned: bool,
 }
 
 // What an edit answers: the new file, or a refusal, which leaves every byte of the buffer as it was.
-#[derive(Drop)]
+#[derive(Clone, Copy)]
 pub enum Edited {
     Done(NewFile),
     Denied(Refusal),

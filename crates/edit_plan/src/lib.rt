@@ -17,7 +17,7 @@ use refusal::Refusal;
 
 // What an edit is carried out by: at the place `at`, `old` bytes go out and `new` bytes come in, and the region of the
 // extensions then ends at `end`. `aligned` is said of the new file's voxel offset (02-change-requests.md, P6).
-#[derive(Drop)]
+#[derive(Clone, Copy)]
 pub struct Plan {
     pub order: Order,
     pub kind: Kind,
@@ -28,7 +28,7 @@ pub struct Plan {
     pub aligned: bool,
 }
 
-#[derive(Drop)]
+#[derive(Clone, Copy)]
 pub enum Planned {
     Go(Plan),
     Stop(Refusal),

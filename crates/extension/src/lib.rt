@@ -16,7 +16,7 @@ pub const FIRST: usize = 352;
 
 // An extension: where it starts, its size with the 8 bytes of size and code, and its code.
 #[repr(C)]
-#[derive(Drop)]
+#[derive(Clone, Copy)]
 pub struct Span {
     pub start: usize,
     pub size: i32,
@@ -24,7 +24,7 @@ pub struct Span {
 }
 
 // A place in a region of extensions that ends at `end`, and how many came before it.
-#[derive(Drop)]
+#[derive(Clone, Copy)]
 pub struct Walker {
     pub order: Order,
     pub end: usize,
@@ -33,7 +33,7 @@ pub struct Walker {
 }
 
 // What a step finds: an extension and the state after it, the region's end, or a refusal.
-#[derive(Drop)]
+#[derive(Clone, Copy)]
 pub enum Step {
     Extension(Span, Walker),
     End,
@@ -41,7 +41,7 @@ pub enum Step {
 }
 
 // A file's extensions: the first `count` spans, and zeros past them.
-#[derive(Drop)]
+#[derive(Clone, Copy)]
 pub struct Listing {
     pub verdict: Verdict,
     pub count: usize,

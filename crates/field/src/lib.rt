@@ -9,7 +9,7 @@ ghost use Rattle.std.proofs.Common.{to_z, of_z};
 ghost use Rattle.field.specs.Numbers.{u16_at, u32_at, i16_at, i32_at, bytes_at, u32s_at, i16s_at};
 
 // The byte order of a file's numbers.
-#[derive(Drop)]
+#[derive(Clone, Copy)]
 pub enum Order {
     Little,
     Big,
@@ -140,7 +140,7 @@ pub fn copy_out(s: &[u8], at: usize, out: &mut [u8])
 {
     let end = at + out.len();
     if end <= s.len() {
-        bytes::copy(&s[at..end], out);
+        out.copy_from_slice(&s[at..end]);
     } else {
         pad_out(s, at, out);
     }

@@ -12,7 +12,7 @@ pub const LINE: usize = 64;
 
 // An axis: how many numbers it has, and the bytes from one to the next, upwards or downwards; the other of the two is 0.
 // So a step has no sign, and what holds of an axis holds of the reversed one too.
-#[derive(Drop)]
+#[derive(Clone, Copy)]
 pub struct Axis {
     pub length: usize,
     pub up: usize,

@@ -11,7 +11,7 @@ pub const LIMIT: u64 = 1_099_511_627_776;
 
 // An image's sizes: its bytes in all and, for each axis, the step, that is how many bytes on from a voxel the next one along
 // the axis is (specs/Sizes.antt).
-#[derive(Drop)]
+#[derive(Clone, Copy)]
 pub struct Sizes {
     pub total: u64,
     pub steps: [u64; 7],

@@ -13,13 +13,13 @@ use field::Order;
 use grid::Sizes;
 
 // A single file (magic n+1), or the header file of a pair (magic ni1).
-#[derive(Drop)]
+#[derive(Clone, Copy)]
 pub enum Kind {
     Single,
     Pair,
 }
 
-#[derive(Drop)]
+#[derive(Clone, Copy)]
 pub struct Header {
     pub order: Order,
     pub kind: Kind,
@@ -37,7 +37,7 @@ pub struct Header {
 }
 
 // Header_key of nifti1.h, bytes 0..40.
-#[derive(Drop)]
+#[derive(Clone, Copy)]
 pub struct Key {
     pub sizeof_hdr: i32,
     pub data_type: [u8; 10],
@@ -49,7 +49,7 @@ pub struct Key {
 }
 
 // The rest of image_dimension up to the slices, bytes 56..76.
-#[derive(Drop)]
+#[derive(Clone, Copy)]
 pub struct Intent {
     pub intent_p1: u32,
     pub intent_p2: u32,
@@ -61,7 +61,7 @@ pub struct Intent {
 }
 
 // Bytes 76..124.
-#[derive(Drop)]
+#[derive(Clone, Copy)]
 pub struct Scale {
     pub pixdim: [u32; 8],
     pub vox_offset: u32,
@@ -73,7 +73,7 @@ pub struct Scale {
 }
 
 // Bytes 124..252.
-#[derive(Drop)]
+#[derive(Clone, Copy)]
 pub struct Display {
     pub cal_max: u32,
     pub cal_min: u32,
@@ -86,7 +86,7 @@ pub struct Display {
 }
 
 // Bytes 252..280.
-#[derive(Drop)]
+#[derive(Clone, Copy)]
 pub struct Quatern {
     pub qform_code: i16,
     pub sform_code: i16,
@@ -99,7 +99,7 @@ pub struct Quatern {
 }
 
 // Bytes 280..348.
-#[derive(Drop)]
+#[derive(Clone, Copy)]
 pub struct Rows {
     pub srow_x: [u32; 4],
     pub srow_y: [u32; 4],

@@ -17,14 +17,14 @@ use refusal::{Refusal, Verdict};
 use rules::{Image, Judged, Shape};
 
 // What rules 1 to 4 leave known: a file's byte order and kind; or their refusal.
-#[derive(Drop)]
+#[derive(Clone, Copy)]
 pub enum Start {
     Read(Order, Kind),
     Unread(Refusal),
 }
 
 // What rules 1 to 12 leave known; `aligned` is what the reading of the voxel offset said (02-change-requests.md, P6).
-#[derive(Drop)]
+#[derive(Clone, Copy)]
 pub struct Layout {
     pub order: Order,
     pub kind: Kind,
@@ -32,7 +32,7 @@ pub struct Layout {
     pub aligned: bool,
 }
 
-#[derive(Drop)]
+#[derive(Clone, Copy)]
 pub enum Checked {
     Fits(Layout),
     Breaks(Refusal),

@@ -15,7 +15,7 @@ use line_plan::{Course, Planned};
 use voxel::{Located, Volume};
 
 // How a line is copied: by the step of its axis, or voxel by voxel.
-#[derive(Drop)]
+#[derive(Clone, Copy)]
 pub enum Engine {
     Steps,
     Voxels,

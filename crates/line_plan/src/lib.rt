@@ -20,14 +20,14 @@ const WIDEST: u64 = 32;
 
 // Where a line's voxels are: the place of the first in the file that holds the image, how many follow at which step, and the
 // bytes of each.
-#[derive(Drop)]
+#[derive(Clone, Copy)]
 pub struct Course {
     pub from: usize,
     pub axis: Axis,
     pub bytes: usize,
 }
 
-#[derive(Drop)]
+#[derive(Clone, Copy)]
 pub enum Planned {
     Along(Course),
     Unlined(Refusal),

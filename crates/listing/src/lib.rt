@@ -14,7 +14,7 @@ use refusal::{Refusal, Verdict};
 
 // What a walk shows of a list that is not kept: how many extensions there are and the one that is wanted, zeros where
 // there is none; or the refusal.
-#[derive(Drop)]
+#[derive(Clone, Copy)]
 pub enum Scanned {
     Counted(usize, Span),
     Broken(Refusal),

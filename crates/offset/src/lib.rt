@@ -9,7 +9,7 @@ use refusal::Refusal;
 
 // What 32 bits say of an offset (02-change-requests.md, P6): a whole number up to the limit that is a
 // multiple of 16; one that is none; or the refusal, by rule 8 or by the upper bound of rule 9.
-#[derive(Drop)]
+#[derive(Clone, Copy)]
 pub enum Offset {
     Aligned(u64),
     Unaligned(u64),

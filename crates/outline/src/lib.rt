@@ -15,14 +15,14 @@ use refusal::Refusal;
 
 // What is known of an accepted file: its layout, how many extensions it has, and the one that is wanted, zeros where
 // there is none.
-#[derive(Drop)]
+#[derive(Clone, Copy)]
 pub struct Outline {
     pub layout: Layout,
     pub count: usize,
     pub span: Span,
 }
 
-#[derive(Drop)]
+#[derive(Clone, Copy)]
 pub enum Outlined {
     Shown(Outline),
     Hidden(Refusal),

@@ -19,7 +19,7 @@ use rules::Image;
 
 // What a piece answers: 25, with the state as it was handed in; or the state with the piece.
 #[repr(C)]
-#[derive(Drop)]
+#[derive(Clone, Copy)]
 pub struct TakenAnswer {
     pub refusal: u64,
     pub place: u64,

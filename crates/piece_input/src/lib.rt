@@ -8,7 +8,7 @@ use reader::Reading;
 use refusal::Verdict;
 
 // What reading the file answered, and whether a read of the input failed before its end.
-#[derive(Drop)]
+#[derive(Clone, Copy)]
 pub struct Input {
     pub failed: bool,
     pub reading: Reading,

@@ -13,7 +13,7 @@ use field::Order;
 
 // Of an extension that has come whole, its size and its code. Where it starts, the sizes before it say.
 #[repr(C)]
-#[derive(Drop)]
+#[derive(Clone, Copy)]
 pub struct Mark {
     pub size: i32,
     pub code: i32,
@@ -22,7 +22,7 @@ pub struct Mark {
 // The walk so far: where it stands, how many extensions it has passed and the marks of these, and the first eight bytes of
 // the one that is coming. Those that have not come, and those from the region's end on, are 0.
 #[repr(C)]
-#[derive(Drop)]
+#[derive(Clone, Copy)]
 pub struct Walk {
     pub at: usize,
     pub count: usize,

@@ -19,7 +19,7 @@ const TOTAL: usize = 2199023255552;
 
 // What is kept of a file between two pieces: how many bytes came, the first 352 of them, and the walk over the extensions.
 #[repr(C)]
-#[derive(Drop)]
+#[derive(Clone, Copy)]
 pub struct Pieces {
     pub taken: usize,
     pub front: [u8; 352],
@@ -27,7 +27,7 @@ pub struct Pieces {
 }
 
 // What a piece leaves: a verdict, and the state, which a refusal leaves as it was.
-#[derive(Drop)]
+#[derive(Clone, Copy)]
 pub struct Taken {
     pub verdict: Verdict,
     pub pieces: Pieces,

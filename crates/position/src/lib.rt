@@ -11,7 +11,7 @@ use header::Header;
 use refusal::Refusal;
 
 // The fields that Method 3 reads: the dims, sform_code and the three rows, each number by its bits.
-#[derive(Drop)]
+#[derive(Clone, Copy)]
 pub struct Sform {
     pub dim: [i16; 8],
     pub sform_code: i16,
@@ -21,7 +21,7 @@ pub struct Sform {
 }
 
 // What is answered of a voxel: its position, or a refusal.
-#[derive(Drop)]
+#[derive(Clone, Copy)]
 pub enum Positioned {
     At(Position),
     Refused(Refusal),

@@ -16,7 +16,7 @@ use refusal::{Refusal, Verdict};
 use rules::Image;
 
 // What reading a file answers. Beside a refusal the record and the image are all zero.
-#[derive(Drop)]
+#[derive(Clone, Copy)]
 pub struct Reading {
     pub verdict: Verdict,
     pub header: Header,

@@ -11,7 +11,7 @@ ghost use Rattle.reorient.specs.Reorient.{no_axis, axis_of, old_axes};
 use gather_row::Axis;
 
 // "The turn names the old axis for each new one": that of the new axes 1 to 3; and "any of these old axes reversed".
-#[derive(Drop)]
+#[derive(Clone, Copy)]
 pub struct Turn {
     pub axis1: usize,
     pub axis2: usize,

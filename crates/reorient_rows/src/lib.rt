@@ -11,7 +11,7 @@ ghost use Rattle.affine.specs.Method.{finite_row};
 use reorient::Turn;
 
 // The numbers of a row: three columns and the shift.
-#[derive(Drop)]
+#[derive(Clone, Copy)]
 struct Numbers {
     first: f32,
     second: f32,

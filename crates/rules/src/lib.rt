@@ -15,7 +15,7 @@ use offset::Offset;
 use refusal::Refusal;
 
 // The fields that these rules judge. The one of a single byte is last, so that the compiler copies the others whole.
-#[derive(Drop)]
+#[derive(Clone, Copy)]
 pub struct Shape {
     pub dim: [i16; 8],
     pub datatype: i16,
@@ -25,14 +25,14 @@ pub struct Shape {
 }
 
 // Where the image is: the voxel offset as a whole number, and how many bytes there are.
-#[derive(Drop)]
+#[derive(Clone, Copy)]
 pub struct Image {
     pub offset: u64,
     pub bytes: u64,
 }
 
 // Where the image is, and whether its offset is aligned (02-change-requests.md, P6), as the offset's reading says; or the refusal.
-#[derive(Drop)]
+#[derive(Clone, Copy)]
 pub enum Judged {
     Passed(Image, bool),
     Failed(Refusal),

@@ -11,7 +11,7 @@ use refusal::Refusal;
 use timing::Acquisition;
 
 // What is answered of a rank: a refusal, that timing is unstated, or the slice.
-#[derive(Drop)]
+#[derive(Clone, Copy)]
 pub enum Ranked {
     Refused(Refusal),
     Unstated,

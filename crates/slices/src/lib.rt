@@ -64,7 +64,7 @@ pub fn rank(code: u8, start: u16, end: u16, s: u16) -> u16
 }
 
 // A slice's time, in the unit of slice_duration.
-#[derive(Drop)]
+#[derive(Clone, Copy)]
 pub enum Time {
     Finite(f32),
     Infinite,

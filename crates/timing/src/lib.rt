@@ -15,7 +15,7 @@ use refusal::Refusal;
 use slices::Time;
 
 // The fields that say how the slices were acquired.
-#[derive(Drop)]
+#[derive(Clone, Copy)]
 pub struct Acquisition {
     pub dim: [i16; 8],
     pub dim_info: u8,
@@ -26,7 +26,7 @@ pub struct Acquisition {
 }
 
 // What is answered of a slice: a refusal, that its timing is unstated, that it is padding, or its rank and its time.
-#[derive(Drop)]
+#[derive(Clone, Copy)]
 pub enum Slice {
     Refused(Refusal),
     Unstated,

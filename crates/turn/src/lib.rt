@@ -15,13 +15,13 @@ use reorient::Turn;
 use rules::Image;
 
 // The lengths of the new files; that of the image file is 0 for a single file.
-#[derive(Drop)]
+#[derive(Clone, Copy)]
 pub struct Lengths {
     pub file: usize,
     pub image: usize,
 }
 
-#[derive(Drop)]
+#[derive(Clone, Copy)]
 pub enum Turned {
     Made(Lengths),
     Refused(Refusal),

@@ -9,7 +9,7 @@ use turn::Turned;
 
 // `vestumbral_turned` of the C header.
 #[repr(C)]
-#[derive(Drop)]
+#[derive(Clone, Copy)]
 pub struct TurnedAnswer {
     pub refusal: u64,
     pub place: u64,

@@ -15,7 +15,7 @@ use rules::Image;
 
 // How the units of an image are turned round: several together, or singly, one after the other. Both leave the same
 // bytes (02-change-requests.md, P3).
-#[derive(Drop)]
+#[derive(Clone, Copy)]
 pub enum Engine {
     Together,
     Singly,

@@ -16,7 +16,7 @@ fn turn_each(buf: &mut [u8], start: usize, count: usize, unit: usize)
     let mut left = count;
     while 0 < left {
         let next = at + unit;
-        bytes::reverse(buf, at, next);
+        buf[at..next].reverse();
         at = next;
         left = left - 1;
     }

@@ -12,7 +12,7 @@ use refusal::Refusal;
 use rules::Image;
 
 // What a voxel is located by: how the axes go, where the image is, its sizes, and which file holds it.
-#[derive(Drop)]
+#[derive(Clone, Copy)]
 pub struct Volume {
     pub dim: [i16; 8],
     pub offset: u64,
@@ -21,13 +21,13 @@ pub struct Volume {
 }
 
 // A voxel's bytes: the place of the first, in the file that holds the image, and how many there are.
-#[derive(Drop)]
+#[derive(Clone, Copy)]
 pub struct Extent {
     pub place: u64,
     pub length: u64,
 }
 
-#[derive(Drop)]
+#[derive(Clone, Copy)]
 pub enum Located {
     At(Extent),
     Unlocated(Refusal),
