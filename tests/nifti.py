@@ -10,18 +10,13 @@ SINGLE, PAIR = b"n+1\0", b"ni1\0"
 NONE, SOME = bytes([0, 0, 0, 0]), bytes([1, 0, 0, 0])    # an extender without and with extensions, its reserved bytes zero
 
 
-def header(order="<", magic=SINGLE, dim=(2, 3, 2), datatype=4, bitpix=16, offset=352.0, sizeof_hdr=348,
-           dim_info=0, slice_start=0, slice_end=0, slice_code=0, slice_duration=0.0):
+def header(order="<", magic=SINGLE, dim=(2, 3, 2), datatype=4, bitpix=16, offset=352.0, sizeof_hdr=348):
     """348 bytes; every field that is not named is zero."""
     h = bytearray(348)
     struct.pack_into(order + "i", h, 0, sizeof_hdr)
-    h[39] = dim_info
     struct.pack_into(f"{order}{len(dim)}h", h, 40, *dim)
-    struct.pack_into(order + "3h", h, 70, datatype, bitpix, slice_start)
+    struct.pack_into(order + "2h", h, 70, datatype, bitpix)
     struct.pack_into(order + "f", h, 108, offset)
-    struct.pack_into(order + "h", h, 120, slice_end)
-    h[122] = slice_code
-    struct.pack_into(order + "f", h, 132, slice_duration)
     h[344:348] = magic
     return bytes(h)
 
@@ -34,17 +29,6 @@ def extension(order="<", size=16, code=0):
 # 01-scope.md, "Numbers on each side": 2 axes of 3 and 2, signed 16-bit voxels. Their values are free; here 0 to 5.
 IMAGE_A = struct.pack("<6h", *range(6))
 FILE_A = header() + NONE + IMAGE_A
-
-
-def single(extender=NONE, between=b"", image=IMAGE_A, **fields):
-    """A single file: header, extender, what stands before the image, the image."""
-    return header(offset=352.0 + len(between), **fields) + extender + between + image
-
-
-def pair(rest=b"", **fields):
-    """A pair's header file: 348 bytes and what follows them."""
-    return header(**{"magic": PAIR, "offset": 0.0, **fields}) + rest
-
 
 if __name__ == "__main__":
     sys.stdout.buffer.write(FILE_A)

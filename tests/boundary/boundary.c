@@ -96,7 +96,7 @@ static void file_a(uint8_t *file)
 
 /* Memory of so many bytes: from the heap, or such that the byte after it, or before it, may not be touched. */
 enum source { HEAP, FENCE_AFTER, FENCE_BEFORE };
-enum { PAGE = 4096, PAGES = 91, FENCED = (PAGES + 2) * PAGE }; /* so many pages hold the longest card */
+enum { PAGE = 4096, PAGES = 3, FENCED = (PAGES + 2) * PAGE };
 
 static uint8_t *take(enum source source, size_t length)
 {
@@ -169,10 +169,6 @@ static void too_short(uint8_t *bytes, size_t length)
     CHECK(slice.state == 0 && slice.rank == 0 && float_bits(slice.seconds) == 0);
     CHECK(not_ranked(vestumbral_slice_of_rank(bytes, length, 0), 1, 0));
     CHECK(not_ranked(vestumbral_slice_of_rank(bytes, length, UINT64_MAX), 1, 0));
-    uint8_t card[10] = {0};
-    CHECK(refused(vestumbral_card(bytes, length, NULL, 0), 1));
-    CHECK(refused(vestumbral_card(bytes, length, card, 0), 1) && refused(vestumbral_card(bytes, length, card, 1), 1));
-    CHECK(refused(vestumbral_card(bytes, length, card, sizeof card), 1) && all(card, 0, sizeof card));
     vestumbral_position position = vestumbral_position_of(bytes, length, 0, 0, 0);
     REFUSED(position, 1, 0);
     CHECK(float_bits(position.x) == 0 && float_bits(position.y) == 0 && float_bits(position.z) == 0);
@@ -907,37 +903,33 @@ static int has_ranks(const uint8_t *file, const uint8_t *by_rank)
     return right;
 }
 
-/* slice_duration by its bits where timing is stated, by the last two with times that are infinite, and where it is not. */
-static const uint32_t stated[] = {0x3dcccccd, 1, 0x007fffff, 0x7f000000, 0x7f7fffff};
-static const uint32_t unstated[] = {0, 0x80000000, 0x80000001, 0xbdcccccd, 0x7f800000, 0x7f800001, 0x7fc00000, 0xff800000};
-/* Fields of document 004's file by which timing is not stated: slice_start, slice_end and dim[0]. */
-static const struct { int at, value; } past[] = {{74, 0xffff}, {74, 0x8000}, {74, 5}, {74, 6}, {120, 1}, {120, 0}, {120, 7},
-                                                 {120, 0x7fff}, {120, 0xffff}, {40, 2}};
-enum { STATED = sizeof stated / sizeof *stated, UNSTATED = sizeof unstated / sizeof *unstated, PAST = sizeof past / sizeof *past };
-
 /* Document 004's table backwards, whatever the time; then each field past what is stated, where no rank is refused. */
 static void ranks(enum source source)
 {
     static const uint8_t table[6][5] = {{1, 2, 3, 4, 5}, {5, 4, 3, 2, 1}, {1, 3, 5, 2, 4}, /* SEQ_INC, SEQ_DEC, ALT_INC */
                                         {5, 3, 1, 4, 2}, {2, 4, 1, 3, 5}, {4, 2, 5, 3, 1}}; /* ALT_DEC, ALT_INC2, ALT_DEC2 */
+    static const uint32_t stated[] = {0x3dcccccd, 1, 0x007fffff, 0x7f000000, 0x7f7fffff}; /* by the last two times are infinite */
+    static const uint32_t unstated[] = {0, 0x80000000, 0x80000001, 0xbdcccccd, 0x7f800000, 0x7f800001, 0x7fc00000, 0xff800000};
+    static const struct { int at, value; } fields[] = {{74, 0xffff}, {74, 0x8000}, {74, 5}, {74, 6}, {120, 1}, {120, 0}, {120, 7},
+                                                       {120, 0x7fff}, {120, 0xffff}, {40, 2}};
     uint8_t *file = take(source, 348), before[348];
     file_004(file);
     CHECK(has_ranks(file, NULL)); /* slice_code 0 */
     for (int code = 1; code <= 6; code++) {
         file[122] = code;
-        for (size_t i = 0; i < STATED; i++) {
+        for (size_t i = 0; i < sizeof stated / sizeof *stated; i++) {
             put32(file + 132, stated[i]);
             memcpy(before, file, 348);
             CHECK(has_ranks(file, table[code - 1]) && memcmp(file, before, 348) == 0);
         }
-        for (size_t i = 0; i < UNSTATED; i++) {
+        for (size_t i = 0; i < sizeof unstated / sizeof *unstated; i++) {
             put32(file + 132, unstated[i]);
             CHECK(has_ranks(file, NULL));
         }
         put32(file + 132, 0x3dcccccd);
-        for (size_t i = 0; i < PAST; i++) {
+        for (size_t i = 0; i < sizeof fields / sizeof *fields; i++) {
             memcpy(before, file, 348);
-            put16(file + past[i].at, past[i].value);
+            put16(file + fields[i].at, fields[i].value);
             CHECK(has_ranks(file, NULL));
             memcpy(file, before, 348);
         }
@@ -976,181 +968,18 @@ static void most_ranks(enum source source)
     give_back(source, file, 348);
 }
 
-/*
- * Whether the card of the file has this text: at an exact fit and with a byte more, which stays. With less room, down to `least`
- * bytes, and with no buffer it is refused.
- */
-static int has_card(enum source source, const uint8_t *file, size_t file_len, const char *text, size_t least)
-{
-    const size_t length = strlen(text);
-    int right = refused(vestumbral_card(file, file_len, NULL, 0), 22);
-    for (size_t room = least; room <= length + 1; room++) {
-        uint8_t *out = take(source, room);
-        memset(out, 0xaa, room);
-        vestumbral_reply reply = vestumbral_card(file, file_len, out, room);
-        if (room < length)
-            right &= refused(reply, 22) && all(out, 0xaa, room);
-        else
-            right &= done(reply, 0, length) && memcmp(out, text, length) == 0 && all(out + length, 0xaa, room - length);
-        give_back(source, out, room);
-    }
-    return right;
-}
-
-/* Document 004's columns as cards, whatever the time, and of all slices of a shorter axis; then each field past what is stated. */
-static void cards(enum source source)
-{
-    static const char *const cards_004[6] = {
-        "0 1\n1 2\n2 3\n3 4\n4 5\npadded 2\n", "0 5\n1 4\n2 3\n3 2\n4 1\npadded 2\n", /* SEQ_INC, SEQ_DEC */
-        "0 1\n1 3\n2 5\n3 2\n4 4\npadded 2\n", "0 5\n1 3\n2 1\n3 4\n4 2\npadded 2\n", /* ALT_INC, ALT_DEC */
-        "0 2\n1 4\n2 1\n3 3\n4 5\npadded 2\n", "0 4\n1 2\n2 5\n3 3\n4 1\npadded 2\n"}; /* ALT_INC2, ALT_DEC2 */
-    static const char *const cards_of_all[6] = {
-        "0 0\n1 1\n2 2\n3 3\npadded 0\n", "0 3\n1 2\n2 1\n3 0\npadded 0\n", "0 0\n1 2\n2 1\n3 3\npadded 0\n",
-        "0 3\n1 1\n2 2\n3 0\npadded 0\n", "0 1\n1 3\n2 0\n3 2\npadded 0\n", "0 2\n1 0\n2 3\n3 1\npadded 0\n"};
-    static const char none[] = "no timing\n";
-    uint8_t *file = take(source, 348), before[348];
-    file_004(file);
-    CHECK(has_card(source, file, 348, none, 0)); /* slice_code 0 */
-    for (int code = 1; code <= 6; code++) {
-        file_004(file);
-        file[122] = code;
-        for (size_t i = 0; i < STATED; i++) {
-            put32(file + 132, stated[i]);
-            memcpy(before, file, 348);
-            CHECK(has_card(source, file, 348, cards_004[code - 1], 0) && memcmp(file, before, 348) == 0);
-        }
-        for (size_t i = 0; i < UNSTATED; i++) {
-            put32(file + 132, unstated[i]);
-            memcpy(before, file, 348);
-            CHECK(has_card(source, file, 348, none, 0) && memcmp(file, before, 348) == 0);
-        }
-        put32(file + 132, 0x3dcccccd);
-        for (size_t i = 0; i < PAST; i++) {
-            memcpy(before, file, 348);
-            put16(file + past[i].at, past[i].value);
-            CHECK(has_card(source, file, 348, none, 0));
-            memcpy(file, before, 348);
-        }
-        file[39] = 0xcf; /* slice_dim 0 */
-        CHECK(has_card(source, file, 348, none, 0));
-        file[39] = 0xf0;
-        CHECK(has_card(source, file, 348, cards_004[code - 1], 0));
-        put16(file + 46, 4); /* dim[3], slice_start and slice_end */
-        put16(file + 74, 0);
-        put16(file + 120, 3);
-        CHECK(has_card(source, file, 348, cards_of_all[code - 1], 0));
-    }
-    file_004(file);
-    file[122] = 7;
-    CHECK(has_card(source, file, 348, none, 0));
-    give_back(source, file, 348);
-
-    file = take(source, 375); /* a single file with an extension, in both orders */
-    memset(file, 0, 375);
-    file_004(file);
-    memcpy(file + 344, "n+1", 4);
-    put32(file + 108, 0x43b80000);
-    file[348] = 1;
-    put32(file + 352, 16);
-    for (int order = 0; order < 2; order++) {
-        for (int code = 1; code <= 6; code++) {
-            file[122] = code;
-            CHECK(has_card(source, file, 375, cards_004[code - 1], 0));
-        }
-        file[122] = 0;
-        CHECK(has_card(source, file, 375, none, 0));
-        CHECK(done(vestumbral_swap(file, 375, NULL, 0), 0, 0));
-    }
-    give_back(source, file, 375);
-}
-
-/* The rank of a slice by the rule of 01-scope.md; codes 1, 3 and 5 are INC. */
-static int rank_by_rule(int code, int start, int end, int slice)
-{
-    const int n = end - start + 1, o = code % 2 ? slice - start : end - slice;
-    if (code < 3)
-        return o;
-    if (code < 5)
-        return o % 2 ? (n + 1) / 2 + (o - 1) / 2 : o / 2;
-    return o % 2 ? (o - 1) / 2 : n / 2 + o / 2;
-}
-
-/* Cards of many slices, the longest among them, each line made from the rule: where ranks, slices and COUNT gain a digit. */
-static void long_cards(enum source source)
-{
-    static const struct { int axis, start, end; } rows[] = {
-        {32767, 0, 32766}, {32767, 1, 32766}, {32767, 3, 32765}, {32767, 32765, 32766}, {32767, 22767, 32766}, {20001, 9, 10009},
-        {19998, 1, 9999}, {2000, 9, 1009}, {1999, 1, 999}, {1100, 99, 1098}, {199, 9, 108}, {101, 0, 100}, {100, 1, 99},
-        {20, 9, 18}, {20, 9, 19}, {10, 1, 9}, {2, 0, 1}};
-    static int by_rank[32767];
-    static char text[PAGES * PAGE];
-    uint8_t *file = take(source, 348), before[348];
-    for (size_t i = 0; i < sizeof rows / sizeof *rows; i++) {
-        const int start = rows[i].start, end = rows[i].end, count = end - start + 1;
-        header(file, 1, (const int[]){1, rows[i].axis}, 2, 8, 0);
-        file[39] = 0x10;
-        put16(file + 74, start);
-        put16(file + 120, end);
-        put32(file + 132, 0x7f7fffff);
-        for (int code = 1; code <= 6; code++) {
-            size_t length = 0;
-            file[122] = code;
-            memcpy(before, file, 348);
-            for (int slice = start; slice <= end; slice++)
-                by_rank[rank_by_rule(code, start, end, slice)] = slice;
-            for (int rank = 0; rank < count; rank++)
-                length += snprintf(text + length, sizeof text - length, "%d %d\n", rank, by_rank[rank]);
-            length += snprintf(text + length, sizeof text - length, "padded %d\n", rows[i].axis - count);
-            CHECK(has_card(source, file, 348, text, length - 1) && memcmp(file, before, 348) == 0);
-            CHECK(i > 0 || length == 370993);
-        }
-    }
-    give_back(source, file, 348);
-}
-
-/* A buffer as long as the longest image, of which all behind the card's page may not be touched. */
-static void longest_room(void)
-{
-    const size_t longest = 1099511627776;
-    uint8_t *out = mmap(NULL, longest, PROT_NONE, MAP_PRIVATE | MAP_ANONYMOUS | MAP_NORESERVE, -1, 0), file[348];
-    if (out == MAP_FAILED) {
-        puts("boundary: no address space");
-        exit(2);
-    }
-    file_004(file);
-    REFUSED(vestumbral_card(file, 347, out, longest), 1, 0);
-    if (mprotect(out, PAGE, PROT_READ | PROT_WRITE) != 0) {
-        puts("boundary: no memory to write");
-        exit(2);
-    }
-    CHECK(done(vestumbral_card(file, 348, out, longest), 0, 10) && memcmp(out, "no timing\n", 10) == 0);
-    file[122] = 3;
-    CHECK(done(vestumbral_card(file, 348, out, longest), 0, 29) && all(out + 29, 0, PAGE - 29));
-    CHECK(memcmp(out, "0 1\n1 3\n2 5\n3 2\n4 4\npadded 2\n", 29) == 0);
-    munmap(out, longest);
-}
-
-/*
- * A file that reading refuses, its timing stated and, by slice_code 0, not: a rank that it would have, and one that none has; its
- * card in a buffer that would hold it, and in none.
- */
-static void refuses_timing(uint8_t *file, size_t length, uint64_t refusal, uint64_t place)
+/* A file that reading refuses, its timing stated and, by slice_code 0, not; a rank that it would have, and one that none has. */
+static void refuses_ranks(uint8_t *file, size_t length, uint64_t refusal, uint64_t place)
 {
     for (int code = 0; code < 2; code++) {
-        uint8_t out[40] = {0};
         file[122] = code;
         CHECK(not_ranked(vestumbral_slice_of_rank(file, length, 0), refusal, place));
         CHECK(not_ranked(vestumbral_slice_of_rank(file, length, UINT64_MAX), refusal, place));
-        for (size_t room = 0; room <= sizeof out; room += sizeof out) {
-            vestumbral_reply card = vestumbral_card(file, length, room ? out : NULL, room);
-            CHECK(card.refusal == refusal && card.place == place && card.length == 0 && card.aligned == 0);
-        }
-        CHECK(all(out, 0, sizeof out));
     }
 }
 
 /* Each refusal of reading, of document 004's file with a field changed and then with bytes behind its header. */
-static void timing_after_reading(enum source source)
+static void ranks_after_reading(enum source source)
 {
     static const struct { int at, value, refusal, place; } fields[] = {
         {40, 0, 2, 40}, {40, 8, 2, 40}, {0, 347, 3, 0}, {344, 0x316e, 4, 344}, {42, 0, 5, 42}, {46, 0x8000, 5, 46}, {70, 1, 6, 70},
@@ -1160,17 +989,17 @@ static void timing_after_reading(enum source source)
     for (size_t i = 0; i < sizeof fields / sizeof *fields; i++) {
         file_004(file);
         put16(file + fields[i].at, fields[i].value);
-        refuses_timing(file, 348, fields[i].refusal, fields[i].place);
+        refuses_ranks(file, 348, fields[i].refusal, fields[i].place);
     }
     file_004(file);
     memcpy(file + 344, "n+1", 4);
     put32(file + 108, 0x43b00000);
-    refuses_timing(file, 348, 11, 108);
+    refuses_ranks(file, 348, 11, 108);
     file_004(file);
     put16(file + 42, 16384);
     put16(file + 44, 16384);
     put16(file + 46, 4097);
-    refuses_timing(file, 348, 10, 40);
+    refuses_ranks(file, 348, 10, 40);
     give_back(source, file, 348);
 
     file = take(source, most);
@@ -1178,14 +1007,14 @@ static void timing_after_reading(enum source source)
     file_004(file);
     file[348] = 1;
     for (size_t length = 349; length < 352; length++)
-        refuses_timing(file, length, 12, 348);
-    refuses_timing(file, 352, 13, 352);
+        refuses_ranks(file, length, 12, 348);
+    refuses_ranks(file, 352, 13, 352);
     for (int i = 0; i < 65; i++)
         put32(file + 352 + 16 * i, 16);
-    refuses_timing(file, most, 15, 1376);
-    refuses_timing(file, most - 24, 13, 1360);
+    refuses_ranks(file, most, 15, 1376);
+    refuses_ranks(file, most - 24, 13, 1360);
     put32(file + 372, 0x80000000);
-    refuses_timing(file, 384, 14, 372);
+    refuses_ranks(file, 384, 14, 372);
     give_back(source, file, most);
 }
 
@@ -1438,7 +1267,6 @@ int main(void)
     longest_line(vestumbral_line);
     longest_line(vestumbral_line_by_voxel);
     longest_turn();
-    longest_room();
     for (enum source source = HEAP; source <= FENCE_BEFORE; source++) {
         uint8_t *byte = take(source, 1);
         *byte = 1;
@@ -1465,9 +1293,7 @@ int main(void)
         slices(source);
         ranks(source);
         most_ranks(source);
-        cards(source);
-        long_cards(source);
-        timing_after_reading(source);
+        ranks_after_reading(source);
         positions(source);
         pieces_of_each_length(source);
         turns(source);

@@ -1,7 +1,6 @@
 //! The comparison's inputs: files valid and damaged, the call's arguments at and beside their borders, and where the buffers lie.
 //! Everything follows from the seed and the case's number.
 
-use crate::card_cases;
 use crate::extender_cases::{self, EXTENDERS};
 use crate::files::{extension, Header, EXTENSIONS, NO_EXTENSIONS, OFFSET_352};
 use crate::library::STATE_WORDS;
@@ -75,7 +74,6 @@ pub enum Call {
     LineByVoxel(Line),
     SliceAt { slice: u64 },
     SliceOfRank { rank: u64 },
-    Card,
     PositionOf { index: [u64; 3] },
     Swap,
     SwapByUnit,
@@ -152,7 +150,7 @@ pub struct Case {
     pub other: Other,
     pub main_at: Where,
     pub other_at: Where,
-    /// The two buffers that a turn fills, or first the one that a line or a card does.
+    /// The two buffers that a turn fills, or first the one that a line does.
     pub rooms: [Other; 2],
     pub rooms_at: [Where; 2],
     pub feeding: Feeding,
@@ -604,7 +602,7 @@ fn other_bytes<'a>(other: &'a Other, zeros: &'a [u8]) -> &'a [u8] {
 }
 
 impl Case {
-    /// How long the buffers are that a turn, a line or a card fills.
+    /// How long the buffers are that a turn or a line fills.
     pub fn room(&self) -> [u64; 2] {
         [0, 1].map(|i: usize| self.rooms[i].length() as u64)
     }
@@ -630,8 +628,8 @@ impl Case {
     /// The case of this number.
     pub fn new(seed: u64, number_of_case: u64, zeros: &[u8]) -> Case {
         let random = &mut Random::new(seed, number_of_case);
-        let call = random.below(36);
-        if call > 32 {
+        let call = random.below(34);
+        if call > 30 {
             return record_cases::case(record_cases::any(random));
         }
         let file = match call {
@@ -654,13 +652,9 @@ impl Case {
             10..=12 => (Call::Swap, file, image(random, known, true)),
             13..=15 => append(random, file, zeros),
             16..=18 => replace(random, file, known, zeros),
-            28..=30 => (rank_cases::any(random, &file, known), file, none),
+            28.. => (rank_cases::any(random, &file, known), file, none),
             20.. => {
-                let any = match call {
-                    20..=24 => turn_cases::any,
-                    25..=27 => line_cases::any,
-                    _ => card_cases::any,
-                };
+                let any = if call < 25 { turn_cases::any } else { line_cases::any };
                 let (call, other, filled) = any(random, &file, known);
                 rooms = filled;
                 (call, file, other)
@@ -706,7 +700,7 @@ fn slice(random: &mut Random, file: &[u8], known: Option<&Known>) -> u64 {
 }
 
 /// The cases that hang on no seed, and come first.
-pub const FIXED: u64 = CARDS + card_cases::FIXED + record_cases::FIXED + extender_cases::FIXED + turn_cases::FIXED;
+pub const FIXED: u64 = RANKS + rank_cases::FIXED + record_cases::FIXED + extender_cases::FIXED + turn_cases::FIXED;
 
 /// The cases at 2^27 and 2^40, which take up to half a gigabyte while they run; the files that are cut at every place; those that
 /// are fed up to 2^41 bytes.
@@ -714,21 +708,19 @@ pub const LARGE: u64 = 27;
 const CUT: u64 = 22;
 const TALL: u64 = 13;
 
-/// The first case of each number of units, the first line, the first rank and the first card, among those that hang on no seed.
+/// The first case of each number of units, the first line and the first rank, among those that hang on no seed.
 pub const SWAPS: u64 = LARGE + CUT + TALL;
 pub const LINES: u64 = SWAPS + swap_cases::FIXED;
 pub const RANKS: u64 = LINES + line_cases::FIXED;
-pub const CARDS: u64 = RANKS + rank_cases::FIXED;
 
 pub fn fixed(number: u64) -> Case {
-    let groups: [(u64, fn(u64) -> Case); 10] = [
+    let groups: [(u64, fn(u64) -> Case); 9] = [
         (LARGE, large),
         (CUT, |number| Case::fed(cut_everywhere(number), Feeding::EveryCut)),
         (TALL, |number| Case::fed(tall(number), Feeding::ToTotal)),
         (swap_cases::FIXED, swap_cases::fixed),
         (line_cases::FIXED, line_cases::fixed),
         (rank_cases::FIXED, rank_cases::fixed),
-        (card_cases::FIXED, card_cases::fixed),
         (record_cases::FIXED, record_cases::fixed),
         (extender_cases::FIXED, extender_cases::fixed),
         (turn_cases::FIXED, turn_cases::fixed),

@@ -28,7 +28,7 @@ pub const EXTENDERS: [[u8; 4]; 14] = [
 const COUNT: u64 = EXTENDERS.len() as u64;
 /// What follows the extender: nothing, one extension, two, or two and some bytes.
 const MANNERS: u64 = 4;
-const CALLS: u64 = 15;
+const CALLS: u64 = 14;
 
 const WHOLE: u64 = COUNT * 2 * 2 * MANNERS * CALLS;
 /// Lengths 348 to 351.
@@ -106,8 +106,7 @@ fn asked(call: usize, buffer: Vec<u8>, file_len: u64, image: Vec<u8>) -> Case {
         9 => Case::at(Call::SliceOfRank { rank: 1 }, file, Other::none()),
         10 => Case::at(Call::PositionOf { index: [1, 1, 2] }, file, Other::none()),
         11 => Case::at(Call::Swap, file, image),
-        12 => Case::filling(Call::Card, file, Other::none(), rooms),
-        13 => Case::filling(Call::Line(Line { axis: 3, index: [1, 1, 2, 0, 0, 0, 0] }), file, image, rooms),
+        12 => Case::filling(Call::Line(Line { axis: 3, index: [1, 1, 2, 0, 0, 0, 0] }), file, image, rooms),
         _ => Case::filling(Call::Turn { axes: [2, 3, 1], reverse: [1, 0, 1], next }, file, image, rooms),
     }
 }

@@ -1,4 +1,4 @@
-//! The library's twenty calls as include/vestumbral.h declares them, and their answers. Nothing checks these declarations but the
+//! The library's nineteen calls as include/vestumbral.h declares them, and their answers. Nothing checks these declarations but the
 //! comparison itself, so they are kept beside one another and in the header's order.
 
 use std::fmt;
@@ -171,7 +171,6 @@ extern "C" {
     ) -> Reply;
     pub fn vestumbral_slice_at(file: *const u8, file_len: usize, slice: u64) -> SliceAnswer;
     pub fn vestumbral_slice_of_rank(file: *const u8, file_len: usize, rank: u64) -> RankedAnswer;
-    pub fn vestumbral_card(file: *const u8, file_len: usize, out: *mut u8, out_len: usize) -> Reply;
     pub fn vestumbral_position_of(file: *const u8, file_len: usize, i: u64, j: u64, k: u64) -> PositionAnswer;
     pub fn vestumbral_swap(file: *mut u8, file_len: usize, image: *mut u8, image_len: usize) -> Reply;
     pub fn vestumbral_swap_by_unit(file: *mut u8, file_len: usize, image: *mut u8, image_len: usize) -> Reply;

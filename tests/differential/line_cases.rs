@@ -7,7 +7,6 @@ use crate::files::{extension, Header, EXTENSIONS, OFFSET_352};
 use crate::line::{self, Line, NO_INDEX};
 use crate::memory::Where;
 use crate::rules::{Known, Order, DATATYPES};
-use crate::together::held;
 use crate::turn_cases;
 use std::array::from_fn;
 
@@ -40,9 +39,13 @@ pub fn any(random: &mut Random, file: &[u8], known: Option<&Known>) -> (Call, Ot
     let needed = known.map_or(6, |known| line.length_in(known)) as usize;
     let long = known.is_some_and(|known| line.length_in(known) > LONG * known.voxel_bytes());
     let few = random.size(100);
-    let room = if long && !random.once_in(40) { Other::Own(random.bytes(few)) } else { turn_cases::room(random, needed) };
+    let mut room = if long && !random.once_in(40) { Other::Own(random.bytes(few)) } else { turn_cases::room(random, needed) };
     let refused = !line::faults(file, image.length() as u64, &line, room.length() as u64).is_empty();
-    (Call::Line(line), image, turn_cases::lent(random, [room, Other::none()], refused))
+    // a buffer that may not even be written with the bytes that it has
+    if refused && random.once_in(4) {
+        room = Other::Zeros(room.length());
+    }
+    (Call::Line(line), image, [room, Other::none()])
 }
 
 pub const FIXED: u64 = EVERY + AXES + OUTSIDE + TOGETHER + LONG_AXES;
@@ -101,10 +104,10 @@ fn inside(random: &mut Random, axes: usize) -> [u64; 7] {
 }
 
 /// The buffer of any bytes, at an end of its memory or inside it.
-pub fn asked(random: &mut Random, call: Call, (file, image): (Vec<u8>, Other), room: usize) -> Case {
+fn asked(random: &mut Random, line: Line, (file, image): (Vec<u8>, Other), room: usize) -> Case {
     let room = Other::Own(random.bytes(room));
     let place = cases::place(random, room.length());
-    Case { rooms_at: [place, Where::Back], ..Case::filling(call, file, image, [room, Other::none()]) }
+    Case { rooms_at: [place, Where::Back], ..Case::filling(Call::Line(line), file, image, [room, Other::none()]) }
 }
 
 fn every(number: u64) -> Case {
@@ -115,7 +118,7 @@ fn every(number: u64) -> Case {
     let needed = LENGTHS[axis - 1] as usize * DATATYPES[datatype].1 as usize / 8;
     let more = needed + random.pick(&[1, 2, 9, 40]);
     let line = Line { axis: axis as u64, index: inside(random, axes) };
-    asked(random, Call::Line(line), both, [needed - 1, needed, more][room])
+    asked(random, line, both, [needed - 1, needed, more][room])
 }
 
 /// The buffer has room for any of them.
@@ -125,7 +128,7 @@ fn each_axis(number: u64) -> Case {
     let axis = if named < 7 { named as u64 + 1 } else { NO_AXES[named - 7] };
     let both = file(random, order(big), pair == 1, axes + 1, LENGTHS, number as usize % DATATYPES.len());
     let line = Line { axis, index: inside(random, axes + 1) };
-    asked(random, Call::Line(line), both, 5 * 32)
+    asked(random, line, both, 5 * 32)
 }
 
 fn outside(number: u64) -> Case {
@@ -138,7 +141,7 @@ fn outside(number: u64) -> Case {
     index[place] = [low, length, length + 1, 1 << 8, (1 << 16) + low, 1 << 32, (1 << 32) + low, (1 << 63) + low, MAX][value];
     let axis = if own == 1 && place < axes { place } else { (place + 1) % axes };
     let both = file(random, order(number as usize / 2 % 2), pair == 1, axes, LENGTHS, number as usize % DATATYPES.len());
-    asked(random, Call::Line(Line { axis: axis as u64 + 1, index }), both, 5 * 32)
+    asked(random, Line { axis: axis as u64 + 1, index }, both, 5 * 32)
 }
 
 fn long_axes(number: u64) -> Case {
@@ -149,8 +152,7 @@ fn long_axes(number: u64) -> Case {
     let datatype = number as usize % 8;
     let both = file(random, order(fits), pair == 1, axes, dims, datatype);
     let index = from_fn(|i| if i + 1 == axis { 32766 } else { (i < axes) as u64 });
-    let line = Line { axis: axis as u64, index };
-    asked(random, Call::Line(line), both, 32767 * DATATYPES[datatype].1 as usize / 8 - 1 + fits)
+    asked(random, Line { axis: axis as u64, index }, both, 32767 * DATATYPES[datatype].1 as usize / 8 - 1 + fits)
 }
 
 /// The kind of a file that reading refuses by this number: no pair is refused by 11 and no single file by 12.
@@ -227,6 +229,7 @@ pub fn together(number: u64) -> (Case, Vec<u64>) {
         (true, _) => 0,
         (false, _) => 50,
     };
-    let case = asked(random, Call::Line(line), (file, Other::Own(image[..image_len].to_vec())), room);
-    (case, held(&[(reading as u64, reading > 0), (16, short), (17, outside), (22, no_room)]))
+    let holds = [(reading as u64, reading > 0), (16, short), (17, outside), (22, no_room)];
+    let case = asked(random, line, (file, Other::Own(image[..image_len].to_vec())), room);
+    (case, holds.into_iter().filter(|row| row.1).map(|row| row.0).collect())
 }

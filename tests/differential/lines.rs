@@ -3,7 +3,6 @@
 
 use crate::cases::{Call, Case};
 use crate::line::{self, Line};
-use crate::met::{self, Met};
 use crate::rules::{self, Known};
 use crate::together::Together;
 
@@ -50,9 +49,9 @@ impl Asked<'_> {
     }
 }
 
-type Border = fn(&Asked) -> bool;
+type Met = fn(&Asked) -> bool;
 
-const BORDERS: [(&str, Border); 22] = [
+const BORDERS: [(&str, Met); 22] = [
     ("a line that fits", |asked| asked.copied() && asked.room == asked.line.length_in(asked.known)),
     ("one byte short", |asked| asked.held == [22] && asked.room + 1 == asked.line.length_in(asked.known)),
     ("a byte to spare", |asked| asked.copied() && asked.room == asked.line.length_in(asked.known) + 1),
@@ -113,15 +112,13 @@ impl Reached {
 
     pub fn print(&self) {
         self.together.print("line");
-        met::print("borders of a line", &self.met());
-    }
-
-    fn met(&self) -> Met {
-        met::named(&BORDERS.map(|row| row.0), &self.borders)
+        let borders = BORDERS.iter().zip(self.borders).map(|((name, _), count)| format!("{name}: {count}"));
+        println!("borders of a line: {}", borders.collect::<Vec<_>>().join(", "));
     }
 
     /// What was never met.
     pub fn missing(&self) -> Vec<String> {
-        [self.together.missing("line", conflicts()), met::missing("line", &self.met())].concat()
+        let borders = BORDERS.iter().zip(self.borders).filter(|row| row.1 == 0).map(|row| format!("{} by line", row.0 .0));
+        self.together.missing("line", conflicts()).into_iter().chain(borders).collect()
     }
 }

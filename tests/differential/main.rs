@@ -1,20 +1,16 @@
 //! Compares the library, called through its C interface, with the rules of 01-scope.md and 02-change-requests.md written a second
-//! time in rules.rs, line.rs, card.rs, turn.rs and record.rs: the whole answer, the whole of every lent buffer, and the bytes beside
-//! it. A file that is read is fed in pieces too, a voxel is located by the record of its file too, a line is copied voxel by voxel
-//! too, what is swapped is swapped unit by unit too, what a call that writes leaves is read again, what an edit's reply says of the
-//! new offset is held to that reading, a turn that is not refused is held to the laws of turns, a slice and its rank are held to
-//! those of ranks, a card to the slices and ranks that are answered one by one, and a file whose extender is one of the base's is
-//! held to the base's rule.
+//! time in rules.rs, line.rs, turn.rs and record.rs: the whole answer, the whole of every lent buffer, and the bytes beside it. A
+//! file that is read is fed in pieces too, a voxel is located by the record of its file too, a line is copied voxel by voxel too,
+//! what is swapped is swapped unit by unit too, what a call that writes leaves is read again, what an edit's reply says of the new
+//! offset is held to that reading, a turn that is not refused is held to the laws of turns, a slice and its rank are held to those
+//! of ranks, and a file whose extender is one of the base's is held to the base's rule.
 //!
 //!     differential [--cases N] [--seed S] [--only CASE] [--self-check]
 //!
-//! It fails on any difference, and where a refusal that a call can give was never reached, two of a line, of a rank, of a card, of a
-//! turn or of voxel_in never held together, a line, a rank, a card or voxel_in never met a border of its rules, a law was never
-//! tried, or a call was never done with some kind of extender.
+//! It fails on any difference, and where a refusal that a call can give was never reached, two of a line, of a rank, of a turn or
+//! of voxel_in never held together, a line, a rank or voxel_in never met a border of its rules, a law was never tried, or a call
+//! was never done with some kind of extender.
 
-mod card;
-mod card_cases;
-mod cards;
 mod cases;
 mod extender_cases;
 mod extenders;
@@ -24,7 +20,6 @@ mod line;
 mod line_cases;
 mod lines;
 mod memory;
-mod met;
 mod noticed;
 mod pieces;
 mod rank_cases;
@@ -40,7 +35,6 @@ mod turn;
 mod turn_cases;
 mod turn_laws;
 mod wrong_alignment;
-mod wrong_cards;
 mod wrong_extenders;
 mod wrong_lines;
 mod wrong_ranks;
@@ -59,7 +53,7 @@ use together::Together;
 use turn::Turn;
 use turn_laws::{Both, Engine, Tried};
 
-/// What a call leaves behind: its answer and the content of the two buffers, and of the two that a turn, a line or a card fills.
+/// What a call leaves behind: its answer and the content of the two buffers, and of the two that a turn or a line fills.
 #[derive(PartialEq)]
 struct Outcome {
     answer: Answer,
@@ -68,7 +62,7 @@ struct Outcome {
     rooms: [Vec<u8>; 2],
 }
 
-/// The reply of a voxel, of a line, of a card, of a swap, and of any refusal: what an edit says of its new file is in none of them.
+/// The reply of a voxel, of a line, of a swap, and of any refusal: what an edit says of its new file is in none of them.
 fn reply(done: Result<(u64, u64), Refusal>) -> Answer {
     Answer::Reply(match done {
         Ok((place, length)) => Reply { place, length, ..Reply::default() },
@@ -163,13 +157,6 @@ fn by_rules(extender: &Extender, case: &Case, zeros: &[u8]) -> Outcome {
         }
         Err(no) => kept(reply(Err(no))),
     };
-    let filled = |done: Result<Vec<u8>, Refusal>| match done {
-        Ok(bytes) => {
-            let [out, unused] = [0, 1].map(|i: usize| case.rooms[i].own());
-            Outcome { rooms: [over(out, &bytes), unused.to_vec()], ..kept(reply(Ok((0, bytes.len() as u64)))) }
-        }
-        Err(no) => kept(reply(Err(no))),
-    };
     match case.call {
         Call::Read => kept(Answer::File(file_answer(&read()))),
         Call::ExtensionAt { number } => {
@@ -177,10 +164,15 @@ fn by_rules(extender: &Extender, case: &Case, zeros: &[u8]) -> Outcome {
         }
         Call::Voxel { index } => kept(reply(rules::voxel(main, other.len() as u64, index))),
         Call::VoxelIn(asked) => kept(reply(asked.voxel())),
-        Call::Line(line) | Call::LineByVoxel(line) => filled(line::line(main, other, &line, case.room()[0])),
+        Call::Line(line) | Call::LineByVoxel(line) => match line::line(main, other, &line, case.room()[0]) {
+            Ok(bytes) => {
+                let [out, unused] = [0, 1].map(|i: usize| case.rooms[i].own());
+                Outcome { rooms: [over(out, &bytes), unused.to_vec()], ..kept(reply(Ok((0, bytes.len() as u64)))) }
+            }
+            Err(no) => kept(reply(Err(no))),
+        },
         Call::SliceAt { slice } => kept(slice_answer(main, slice)),
         Call::SliceOfRank { rank } => kept(Answer::Ranked(ranked_answer(rules::slice_of_rank(main, rank)))),
-        Call::Card => filled(card::card(main, case.room()[0]).map(String::into_bytes)),
         Call::PositionOf { index } => kept(position_answer(main, index)),
         Call::Swap | Call::SwapByUnit => match rules::swap(main, other) {
             Ok((main, other)) => Outcome { main, other, ..kept(reply(Ok((0, 0)))) },
@@ -256,7 +248,6 @@ unsafe fn call(call: Call, (main, length): Buffer, (other, other_len): Buffer, r
         }
         Call::SliceAt { slice } => Answer::Slice(vestumbral_slice_at(main, length, slice)),
         Call::SliceOfRank { rank } => Answer::Ranked(vestumbral_slice_of_rank(main, length, rank)),
-        Call::Card => Answer::Reply(vestumbral_card(main, length, rooms[0].0, rooms[0].1)),
         Call::PositionOf { index: [i, j, k] } => Answer::Position(vestumbral_position_of(main, length, i, j, k)),
         Call::Swap => Answer::Reply(vestumbral_swap(main, length, other, other_len)),
         Call::SwapByUnit => Answer::Reply(vestumbral_swap_by_unit(main, length, other, other_len)),
@@ -342,7 +333,6 @@ fn call_difference(case: &Case, memory: &mut Memory, counts: &mut Counts) -> Opt
     counts.extenders.count(case, expected.answer.refusal());
     counts.lines.count(case);
     counts.ranks.count(case);
-    counts.cards.count(case);
     if answer != expected.answer {
         return Some(format!("\n  rules   {:?}\n  library {:?}", expected.answer, answer));
     }
@@ -358,7 +348,6 @@ fn call_difference(case: &Case, memory: &mut Memory, counts: &mut Counts) -> Opt
         .or_else(|| turn_difference(case, counts))
         .or_else(|| records::difference(case, memory.main.content(&main), &expected, counts))
         .or_else(|| ranks::difference(case, memory.main.content(&main), &expected, &mut counts.ranks))
-        .or_else(|| cards::difference(case, memory.main.content(&main), &expected, &mut counts.cards))
         .or_else(|| pieces::difference(memory.main.content(&main), &case.feeding, &mut memory.other, &mut memory.tall, counts))
 }
 
@@ -390,7 +379,7 @@ fn show(case: &Case) -> String {
         content(&case.other),
         case.feeding
     );
-    if matches!(case.call, Call::Turn { .. } | Call::Line(_) | Call::Card) {
+    if matches!(case.call, Call::Turn { .. } | Call::Line(_)) {
         let [out, out_image] = &case.rooms;
         text += &format!("\n  out {:?}: {}\n  out_image: {}", case.rooms_at, content(out), content(out_image));
     }
@@ -439,9 +428,9 @@ fn reduce(case: &Case, memory: &mut Memory) -> Case {
     least
 }
 
-const CALLS: [&str; 19] = [
+const CALLS: [&str; 18] = [
     "read", "extension", "voxel", "slice", "position", "swap", "append", "replace", "remove", "take", "pieces", "pieces_ext",
-    "turn", "voxel_in", "by_unit", "line", "by_voxel", "rank", "card",
+    "turn", "voxel_in", "by_unit", "line", "by_voxel", "rank",
 ];
 const PIECES_TAKE: usize = 9;
 const PIECES_FILE: usize = 10;
@@ -451,7 +440,6 @@ const SWAP_BY_UNIT: usize = 14;
 const LINE: usize = 15;
 const LINE_BY_VOXEL: usize = 16;
 const SLICE_OF_RANK: usize = 17;
-const CARD: usize = 18;
 
 /// The refusals that each call can give.
 fn possible(call: usize) -> Vec<usize> {
@@ -462,7 +450,6 @@ fn possible(call: usize) -> Vec<usize> {
         "voxel_in" => &[16, 17, 26],
         "line" | "by_voxel" => &[16, 17, 22],
         "slice" | "rank" => &[17],
-        "card" => &[22],
         "position" => &[17, 23],
         "swap" | "by_unit" => &[16],
         "append" => &[19, 20, 21, 22, 24],
@@ -491,7 +478,6 @@ fn call_number(call: &Call) -> usize {
         Call::Line(_) => LINE,
         Call::LineByVoxel(_) => LINE_BY_VOXEL,
         Call::SliceOfRank { .. } => SLICE_OF_RANK,
-        Call::Card => CARD,
     }
 }
 
@@ -510,7 +496,6 @@ struct Counts {
     records: records::Reached,
     lines: lines::Reached,
     ranks: ranks::Reached,
-    cards: cards::Reached,
 }
 
 /// The refusals of a turn that may hold together: of two the one that is tried first, and the other.
@@ -543,7 +528,6 @@ impl Counts {
         self.records.print();
         self.lines.print();
         self.ranks.print();
-        self.cards.print();
     }
 
     /// Which refusals were never reached, alone or before another, which laws were never tried, and which extenders and borders
@@ -557,8 +541,7 @@ impl Counts {
         let Tried { back, composed, swapped } = self.tried;
         let laws = [(back, "a turn back"), (composed, "a composed turn"), (swapped, "a turn and a swap")];
         let tried = laws.into_iter().filter(|law| law.0 == 0).map(|law| law.1.to_string());
-        let own = [self.extenders.missing(), self.records.missing(), self.lines.missing()];
-        let others = [own.concat(), self.ranks.missing(), self.cards.missing()].concat();
+        let others = [self.extenders.missing(), self.records.missing(), self.lines.missing(), self.ranks.missing()].concat();
         given.chain(together).chain(tried).chain(others).collect()
     }
 }

@@ -6,7 +6,6 @@ use crate::extender_cases::digits;
 use crate::files::Header;
 use crate::line_cases;
 use crate::rules::{Known, Order, Timing};
-use crate::together::held;
 use std::array::from_fn;
 
 const MAX: u64 = u64::MAX;
@@ -52,8 +51,8 @@ const DURATIONS: [u32; 14] = [
 /// Durations with which timing is stated; with the last two most times are infinite.
 const STATED_DURATIONS: [u32; 6] = [0x3dcc_cccd, 0x3f80_0000, 1, 0x0000_0c00, 0x7f00_0000, 0x7f7f_ffff];
 
-/// A file for a rank, a slice or a card: in one case of three any, else one that states timing, every third of these but for a
-/// field at a border.
+/// A file for a rank or a slice: in one case of three any, else one that states timing, every third of these but for a field at a
+/// border.
 pub fn file(random: &mut Random) -> Vec<u8> {
     if random.once_in(3) {
         return cases::file(random);
@@ -101,19 +100,19 @@ pub const FIXED: u64 = EVERY + BORDERS + TOGETHER + LONGEST;
 
 /// Each rank of 2 to 9 slices and the first past them, by each code, with and without slices before and after them.
 const EVERY: u64 = 52 * CODES_STATED * 3 * 2;
-pub const CODES_STATED: u64 = 6;
+const CODES_STATED: u64 = 6;
 
 /// Each field on each side of what is stated, the others as they were, with each rank.
 const BORDERS: u64 = RANKS * FIELDS * 2;
 const AXES: u64 = 3 * 4;
-pub const FIELDS: u64 = AXES + SPANS.len() as u64 + CODES.len() as u64 + DURATIONS.len() as u64;
+const FIELDS: u64 = AXES + SPANS.len() as u64 + CODES.len() as u64 + DURATIONS.len() as u64;
 
 /// Each refusal of reading and none, where timing is stated and where not, with ranks inside and past the slices, of both orders
 /// and kinds.
 pub const TOGETHER: u64 = 16 * 2 * 4 * 2 * 2;
 
 /// An axis of 32767 slices, all or all but one of them acquired, by each code, with each rank.
-const LONGEST: u64 = RANKS * CODES_STATED * LONG.len() as u64;
+const LONGEST: u64 = RANKS * CODES_STATED * 3;
 
 pub fn fixed(number: u64) -> Case {
     let groups: [(u64, fn(u64) -> Case); 4] =
@@ -137,18 +136,15 @@ fn timed(random: &mut Random, slices: i16, fields: Fields) -> Vec<u8> {
     Header { bytes, order }.timed(dim_info, span, code, duration).bytes
 }
 
-/// A file of so many slices that are acquired by the code of this number, from 0, and so many before and after them.
-pub fn acquired(random: &mut Random, code: usize, [before, count, after]: [i16; 3]) -> Vec<u8> {
-    let (slices, span) = (before + count + after, [before, before + count - 1]);
-    let fields = Fields { span, code: code as u8 + 1, ..stated(random, slices) };
-    timed(random, slices, fields)
-}
-
 fn every(number: u64) -> Case {
     let random = &mut Random::new(81, number);
     let [code, before, after, place] = digits(number, [CODES_STATED, 3, 2, 52]);
     let (count, rank) = (2..=9).flat_map(|count| (0..=count).map(move |rank| (count, rank))).nth(place).unwrap();
-    asked(rank as u64, acquired(random, code, [[0, 1, 4][before], count, 2 * after as i16]))
+    let start = [0, 1, 4][before];
+    let end = start + count - 1;
+    let slices = end + 1 + 2 * after as i16;
+    let fields = Fields { span: [start, end], code: code as u8 + 1, ..stated(random, slices) };
+    asked(rank as u64, timed(random, slices, fields))
 }
 
 const RANKS: u64 = 12;
@@ -160,8 +156,9 @@ fn ranks(count: u64) -> [u64; RANKS as usize] {
     [0, 1, half.saturating_sub(1), half, count.div_ceil(2), last, count, 1 << 16, 1 << 32, (1 << 32) + 1, (1 << 63) + half, MAX]
 }
 
-/// A file with the field of this number on a side of what is stated, and slice_start and slice_end.
-pub fn beside(random: &mut Random, field: usize) -> (Vec<u8>, [i16; 2]) {
+fn borders(number: u64) -> Case {
+    let random = &mut Random::new(82, number);
+    let [rank, field] = digits(number, [RANKS, FIELDS]);
     let groups: [(u64, fn(u64) -> Fields); 4] = [
         (AXES, |n| Fields { axes: 1 + n as usize % 3, slice_dim: n as u8 / 3, ..STATED }),
         (SPANS.len() as u64, |n| Fields { span: SPANS[n as usize], ..STATED }),
@@ -169,38 +166,26 @@ pub fn beside(random: &mut Random, field: usize) -> (Vec<u8>, [i16; 2]) {
         (DURATIONS.len() as u64, |n| Fields { duration: DURATIONS[n as usize], ..STATED }),
     ];
     let fields = cases::grouped(field as u64, &groups);
-    (timed(random, SLICES, fields), fields.span)
+    let [start, end] = fields.span.map(i64::from);
+    asked(ranks((end - start + 1).max(0) as u64)[rank], timed(random, SLICES, fields))
 }
-
-fn borders(number: u64) -> Case {
-    let [rank, field] = digits(number, [RANKS, FIELDS]);
-    let (file, span) = beside(&mut Random::new(82, number), field);
-    let [start, end] = span.map(i64::from);
-    asked(ranks((end - start + 1).max(0) as u64)[rank], file)
-}
-
-/// How many of 32767 slices are acquired, and how many are before and after them.
-pub const LONG: [[i16; 3]; 3] = [[0, 32767, 0], [1, 32766, 0], [0, 32766, 1]];
 
 fn longest(number: u64) -> Case {
     let random = &mut Random::new(83, number);
-    let [rank, code, left_out] = digits(number, [RANKS, CODES_STATED, LONG.len() as u64]);
-    asked(ranks(LONG[left_out][1] as u64)[rank], acquired(random, code, LONG[left_out]))
-}
-
-/// A file that reading refuses by the first of these, or does not for 0, of four slices. Three of them are acquired where timing is
-/// stated, by a code that goes round with the number.
-pub fn refused(number: u64, [reading, stated, big, pair]: [usize; 4]) -> Vec<u8> {
-    let order = line_cases::order(big);
-    let (bytes, _) = line_cases::refused(reading, order, line_cases::kind(reading, pair == 1));
-    let code = if stated == 1 { 1 + (number % CODES_STATED) as u8 } else { 0 };
-    Header { bytes, order }.timed(0x30, [1, 3], code, 0x3dcc_cccd).bytes
+    let [rank, code, left_out] = digits(number, [RANKS, CODES_STATED, 3]);
+    let span = [[0, 32766], [1, 32766], [0, 32765]][left_out];
+    let fields = Fields { span, code: code as u8 + 1, ..stated(random, 32767) };
+    asked(ranks((span[1] - span[0] + 1) as u64)[rank], timed(random, 32767, fields))
 }
 
 /// A rank of a file that reading refuses by the first digit of the number, or does not for 0, and the refusals that hold.
 pub fn together(number: u64) -> (Case, Vec<u64>) {
     let [reading, stated, rank, big, pair] = digits(number, [16, 2, 4, 2, 2]);
-    let file = refused(number, [reading, stated, big, pair]);
+    let order = line_cases::order(big);
+    let (bytes, _) = line_cases::refused(reading, order, line_cases::kind(reading, pair == 1));
+    let code = if stated == 1 { 1 + (number % CODES_STATED) as u8 } else { 0 };
+    let file = Header { bytes, order }.timed(0x30, [1, 3], code, 0x3dcc_cccd).bytes;
     let past = rank >= 2 && (reading > 0 || stated == 1);
-    (asked([0, 2, 1 << 16, MAX][rank], file), held(&[(reading as u64, reading > 0), (17, past)]))
+    let holds = [(reading as u64, reading > 0), (17, past)];
+    (asked([0, 2, 1 << 16, MAX][rank], file), holds.into_iter().filter(|row| row.1).map(|row| row.0).collect())
 }

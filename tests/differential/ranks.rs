@@ -4,21 +4,26 @@
 use crate::cases::{Call, Case};
 use crate::library::*;
 use crate::line::NO_INDEX;
-use crate::met::{self, Met, Timings};
-use crate::rules::{self, Refusal, Timing};
+use crate::rules::{self, Known, Order, Refusal, Timing};
 use crate::together::Together;
 use crate::{ranked_answer, Outcome};
 use std::fmt::Debug;
 
 /// A rank of a file that reading accepts.
-struct Asked {
+struct Asked<'a> {
+    known: &'a Known,
     timing: Timing,
     rank: u64,
 }
 
-impl Asked {
+impl Asked<'_> {
     fn answered(&self) -> bool {
         self.timing.stated() && self.rank < self.timing.count()
+    }
+
+    /// N slices, of which one is answered.
+    fn of(&self, count: u64) -> bool {
+        self.answered() && self.timing.count() == count
     }
 
     /// This rank, which 17 refuses.
@@ -36,9 +41,13 @@ impl Asked {
     }
 }
 
-type Border = fn(&Asked) -> bool;
+type Met = fn(&Asked) -> bool;
 
-const BORDERS: [(&str, Border); 14] = [
+const BORDERS: [(&str, Met); 29] = [
+    ("N 2", |asked| asked.of(2)),
+    ("N 3", |asked| asked.of(3)),
+    ("N 32766", |asked| asked.of(32766)),
+    ("N 32767", |asked| asked.of(32767)),
     ("rank 0", |asked| asked.answered() && asked.rank == 0),
     ("rank N - 1", |asked| asked.answered() && asked.rank + 1 == asked.timing.count()),
     ("rank N", |asked| asked.past(asked.timing.count())),
@@ -52,8 +61,21 @@ const BORDERS: [(&str, Border); 14] = [
     ("rank 2^32, unstated", |asked| asked.unstated(1 << 32)),
     ("rank 2^32 + 1, unstated", |asked| asked.unstated((1 << 32) + 1)),
     ("rank 2^64 - 1, unstated", |asked| asked.unstated(u64::MAX)),
+    ("start above 0", |asked| asked.answered() && asked.timing.start > 0),
+    ("end below the last slice", |asked| asked.answered() && asked.timing.end + 1 < asked.timing.slices),
+    ("no padding", |asked| asked.answered() && asked.timing.count() == asked.timing.slices as u64),
+    ("slices on axis 1", |asked| asked.answered() && asked.timing.axis == 1),
+    ("slices on axis 2", |asked| asked.answered() && asked.timing.axis == 2),
+    ("slices on axis 3", |asked| asked.answered() && asked.timing.axis == 3),
+    ("little-endian", |asked| asked.answered() && asked.known.order == Order::Little),
+    ("big-endian", |asked| asked.answered() && asked.known.order == Order::Big),
+    ("a single file", |asked| asked.answered() && !asked.known.pair),
+    ("a pair", |asked| asked.answered() && asked.known.pair),
     ("an infinite time", |asked| asked.infinite()),
+    ("the least duration", |asked| asked.answered() && asked.timing.duration.to_bits() == 1),
 ];
+
+const CODES: [&str; 6] = ["SEQ_INC", "SEQ_DEC", "ALT_INC", "ALT_DEC", "ALT_INC2", "ALT_DEC2"];
 
 const LAWS: [&str; 4] = [
     "the slice of a rank has that rank",
@@ -65,9 +87,9 @@ const LAWS: [&str; 4] = [
 #[derive(Default)]
 pub struct Reached {
     together: Together,
-    /// Where a slice is answered.
-    timings: Timings,
     borders: [u64; BORDERS.len()],
+    /// A slice answered by each code, of even and of odd N.
+    codes: [[u64; 2]; CODES.len()],
     /// How often each law was tried.
     laws: [u64; LAWS.len()],
 }
@@ -94,31 +116,37 @@ impl Reached {
         let Ok(known) = &rules::read(&case.main) else {
             return;
         };
-        let asked = Asked { timing: Timing::of(&case.main, known), rank };
+        let asked = Asked { known, timing: Timing::of(&case.main, known), rank };
         BORDERS.iter().zip(&mut self.borders).for_each(|((_, met), count)| *count += met(&asked) as u64);
         if asked.answered() {
-            self.timings.count(known, &asked.timing);
+            self.codes[asked.timing.code as usize - 1][asked.timing.count() as usize % 2] += 1;
         }
     }
 
     /// What has to be met, and how often it was.
-    fn met(&self) -> Met {
-        [self.timings.met(), met::named(&BORDERS.map(|row| row.0), &self.borders), met::named(&LAWS, &self.laws)].concat()
+    fn met(&self) -> Vec<(String, u64)> {
+        let by_code = |(code, [even, odd]): (&&str, [u64; 2])| [(format!("{code}, N even"), even), (format!("{code}, N odd"), odd)];
+        let codes = CODES.iter().zip(self.codes).flat_map(by_code);
+        let borders = BORDERS.iter().zip(self.borders).map(|((name, _), count)| (name.to_string(), count));
+        codes.chain(borders).chain(LAWS.iter().zip(self.laws).map(|(law, count)| (law.to_string(), count))).collect()
     }
 
     pub fn print(&self) {
         self.together.print("rank");
-        met::print("borders and laws of a rank", &self.met());
+        let met: Vec<String> = self.met().iter().map(|(name, count)| format!("{name}: {count}")).collect();
+        println!("borders and laws of a rank: {}", met.join(", "));
     }
 
     /// What was never met.
     pub fn missing(&self) -> Vec<String> {
         let together = self.together.missing("rank", (1..=15).map(|first| (first, 17)).collect());
-        [together, met::missing("rank", &self.met())].concat()
+        let met = self.met().into_iter().filter(|row| row.1 == 0).map(|row| format!("{} by rank", row.0));
+        together.into_iter().chain(met).collect()
     }
 
     fn tried<T: PartialEq + Debug>(&mut self, law: usize, rules: T, library: T) -> Option<String> {
-        met::tried(LAWS[law], &mut self.laws[law], rules, library)
+        self.laws[law] += 1;
+        (library != rules).then(|| format!("{}\n  rules   {rules:?}\n  library {library:?}", LAWS[law]))
     }
 
     /// When the slice of a rank was acquired, by the library; then the slice of that rank in the file with the code of the other

@@ -441,11 +441,6 @@ impl Timing {
         (self.end - self.start + 1) as u64
     }
 
-    /// How many slices of the axis are not among them.
-    pub fn padded(&self) -> usize {
-        (0..self.slices).filter(|s| !(self.start..=self.end).contains(s)).count()
-    }
-
     pub fn rank(&self, s: i64) -> i64 {
         rank(self.code, self.start, self.end, s)
     }

@@ -2,7 +2,6 @@
 //! table of source document 004, the examples of document 002, and the borders that docs/DECISIONS.md settles. Then laws that any
 //! right implementation obeys, on files made at random, and wrong programs that the comparison's cases must notice.
 
-use crate::card::{self, card};
 use crate::cases::{self, Call, Case, Other};
 use crate::files::{extension, file_a, Header, EXTENSIONS, NO_EXTENSIONS, OFFSET_352};
 use crate::library::{Answer, FileAnswer, Reply};
@@ -13,9 +12,8 @@ use crate::record::Asked;
 use crate::rules::*;
 use crate::turn::{came_from, faults, reversed_row, turn, Turn};
 use crate::turn_laws::{broken, Both, Engine, Tried};
-use crate::{by_rules, case, file_answer, memory, ranks};
-use crate::{card_cases, extender_cases, line_cases, rank_cases, record_cases, turn_cases};
-use crate::{wrong_alignment, wrong_cards, wrong_extenders, wrong_lines, wrong_ranks, wrong_steps, wrong_swaps, wrong_turns};
+use crate::{by_rules, case, extender_cases, file_answer, line_cases, memory, rank_cases, ranks, record_cases, turn_cases};
+use crate::{wrong_alignment, wrong_extenders, wrong_lines, wrong_ranks, wrong_steps, wrong_swaps, wrong_turns};
 use std::fmt::Debug;
 use std::ops::Range;
 
@@ -582,7 +580,6 @@ fn unstated_ranks(checks: &mut Checks) {
         for rank in [0, 4].into_iter().chain(NO_RANKS) {
             checks.equal("unstated before 17", slice_of_rank(&changed(file.clone(), at, &bytes), rank), Ok(None));
         }
-        printed(checks, &changed(file.clone(), at, &bytes), "no timing\n", 10);
     }
     checks.refused("reading first", slice_of_rank(&file[..347], u64::MAX), 1, 0);
     checks.refused("with its place", slice_of_rank(&changed(file, 344, b"nil\0"), 0), 4, 344);
@@ -592,70 +589,6 @@ fn unstated_ranks(checks: &mut Checks) {
             let faults = ranks::faults(&case.main, rank);
             checks.equal("which refusals hold together", faults.iter().map(|no| no.number).collect::<Vec<_>>(), holds);
         }
-    }
-}
-
-/// The cards of document 004's table, by SEQ_INC, SEQ_DEC, ALT_INC, ALT_DEC, ALT_INC2 and ALT_DEC2.
-const CARDS: [&str; 6] = [
-    "0 1\n1 2\n2 3\n3 4\n4 5\npadded 2\n",
-    "0 5\n1 4\n2 3\n3 2\n4 1\npadded 2\n",
-    "0 1\n1 3\n2 5\n3 2\n4 4\npadded 2\n",
-    "0 5\n1 3\n2 1\n3 4\n4 2\npadded 2\n",
-    "0 2\n1 4\n2 1\n3 3\n4 5\npadded 2\n",
-    "0 4\n1 2\n2 5\n3 3\n4 1\npadded 2\n",
-];
-
-/// The card of slices (02-change-requests.md, P14), with what is refused first.
-fn cards(checks: &mut Checks) {
-    for (column, expected) in CARDS.iter().enumerate() {
-        for (order, duration) in [(BIG, 0x3dcc_cccd), (LITTLE, 1), (BIG, 0x7f7f_ffff)] {
-            printed(checks, &timed_file(order, column as u8 + 1, duration), expected, 29);
-        }
-    }
-    let rows = [
-        (7, [0, 6], 3, "0 0\n1 2\n2 4\n3 6\n4 1\n5 3\n6 5\npadded 0\n", 37),
-        (7, [3, 6], 6, "0 5\n1 3\n2 6\n3 4\npadded 3\n", 25),
-        (100, [9, 10], 4, "0 10\n1 9\npadded 98\n", 19),
-        (12, [1, 11], 6, "0 10\n1 8\n2 6\n3 4\n4 2\n5 11\n6 9\n7 7\n8 5\n9 3\n10 1\npadded 1\n", 56),
-    ];
-    for (slices, [start, end], code, expected, length) in rows {
-        let file = changed(timed_file(BIG, code, 0x3dcc_cccd), 46, &[0, slices]);
-        printed(checks, &changed(changed(file, 74, &[0, start]), 120, &[0, end]), expected, length);
-    }
-    for code in 1..=6 {
-        // 10 + 90 x 2 + 900 x 3 + 9000 x 4 + 22767 x 5 digits twice, 32767 blanks and line feeds, and `padded 0`
-        let longest = Timing { axis: 3, slices: 32767, start: 0, end: 32766, code, duration: 1.0 };
-        checks.equal("the longest card", card::text(&longest).len(), 2 * 152_725 + 2 * 32_767 + 9);
-    }
-
-    let left = |file: Vec<u8>, room| {
-        let rooms = [Other::Own(vec![0xee; room]), Other::Own(vec![0xdd; 2])];
-        by_rules(&RESERVED, &Case::filling(Call::Card, file, Other::none(), rooms), &[])
-    };
-    let file = timed_file(BIG, 3, 0x3dcc_cccd);
-    let written = left(file.clone(), 31);
-    checks.equal("its answer", written.answer, Answer::Reply(Reply { length: 29, ..Reply::default() }));
-    checks.equal("its buffer", written.rooms, [[CARDS[2].as_bytes(), &[0xee; 2]].concat(), vec![0xdd; 2]]);
-    checks.equal("its file", written.main, file.clone());
-    let refused = left(file.clone(), 28);
-    checks.equal("a refusal", refused.answer, Answer::Reply(Reply { refusal: 22, ..Reply::default() }));
-    checks.equal("its buffer", refused.rooms[0].clone(), vec![0xee; 28]);
-    let refused = left(changed(file.clone(), 344, b"nil\0"), 0);
-    checks.equal("reading first", refused.answer, Answer::Reply(Reply { refusal: 4, place: 344, ..Reply::default() }));
-    for number in 0..card_cases::TOGETHER {
-        let (case, holds) = card_cases::together(number);
-        let faults = card::faults(&case.main, case.room()[0]);
-        checks.equal("which refusals hold together", faults.iter().map(|no| no.number).collect::<Vec<_>>(), holds);
-    }
-}
-
-/// A card of so many bytes, in buffers that have room for it and in others.
-fn printed(checks: &mut Checks, file: &[u8], expected: &str, length: u64) {
-    for room in [length, length + 1, 99] {
-        checks.equal("a card", card(file, room), Ok(expected.to_string()));
-    }
-    for room in [length - 1, 1, 0] {
-        checks.refused("no room for it", card(file, room), 22, 0);
     }
 }
 
@@ -961,8 +894,7 @@ fn wrong_programs(checks: &mut Checks) {
     all_noticed(checks, cases::LARGE..turns, |cases, _| wrong_steps::noticed(cases));
     all_noticed(checks, cases::SWAPS..cases::LINES, |cases, zeros| wrong_swaps::noticed(cases, zeros));
     all_noticed(checks, cases::LINES..cases::RANKS, |cases, _| wrong_lines::noticed(cases));
-    all_noticed(checks, cases::RANKS..cases::CARDS, |cases, _| wrong_ranks::noticed(cases));
-    all_noticed(checks, cases::CARDS..cases::CARDS + card_cases::FIXED, |cases, _| wrong_cards::noticed(cases));
+    all_noticed(checks, cases::RANKS..cases::RANKS + rank_cases::FIXED, |cases, _| wrong_ranks::noticed(cases));
     let alignments = extenders - record_cases::ALIGNMENTS..extenders;
     all_noticed(checks, alignments, |cases, zeros| wrong_alignment::noticed(cases, zeros));
 }
@@ -1098,7 +1030,7 @@ pub fn run() {
     let mut checks = Checks::default();
     let values = [
         file_a_numbers, offsets, alignment, images, steps_read, voxels_by_record, lines, headers, reserved_bytes, extensions,
-        pieces, slices, slices_of_ranks, cards, positions, swaps, edits, turns,
+        pieces, slices, slices_of_ranks, positions, swaps, edits, turns,
     ];
     for part in values.into_iter().chain([laws as fn(&mut Checks), rank_laws, turn_laws, wrong_programs]) {
         part(&mut checks);

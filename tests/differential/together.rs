@@ -3,11 +3,6 @@
 use crate::rules::Refusal;
 use std::collections::BTreeMap;
 
-/// The numbers of those that hold.
-pub fn held(rows: &[(u64, bool)]) -> Vec<u64> {
-    rows.iter().filter(|row| row.1).map(|row| row.0).collect()
-}
-
 /// How often each two did, the one that is tried first before the other.
 #[derive(Default)]
 pub struct Together(BTreeMap<(u64, u64), u64>);

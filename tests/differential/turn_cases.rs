@@ -57,15 +57,6 @@ pub fn room(random: &mut Random, needed: usize) -> Other {
     Other::Own(random.bytes(length))
 }
 
-/// These buffers; of a call that is refused, in one case of four ones that may not even be written with the bytes that they have.
-pub fn lent(random: &mut Random, rooms: [Other; 2], refused: bool) -> [Other; 2] {
-    if refused && random.once_in(4) {
-        rooms.map(|room| Other::Zeros(room.length()))
-    } else {
-        rooms
-    }
-}
-
 /// A buffer for the image file, which a turn of a single file leaves alone. Where the image file is longer than memory the buffer
 /// is too short for it.
 fn image_room(random: &mut Random, known: Option<&Known>, image: &Other) -> Other {
@@ -89,11 +80,15 @@ pub fn any(random: &mut Random, file: &[u8], known: Option<&Known>) -> (Call, Ot
     let (axes, reverse) = (axes(random), from_fn(|_| flag(random)));
     let next = numbered(random.below(TURNS));
     let image = cases::image(random, known, false);
-    let rooms = [room(random, file.len()), image_room(random, known, &image)];
+    let mut rooms = [room(random, file.len()), image_room(random, known, &image)];
     let turn = Turn::named(axes, reverse);
     let lengths = [0, 1].map(|i: usize| rooms[i].length() as u64);
     let refused = !turn::faults(file, image.length() as u64, &turn, lengths).is_empty();
-    (Call::Turn { axes, reverse, next }, image, lent(random, rooms, refused))
+    // a buffer that may not even be written with the bytes that it has
+    if refused && random.once_in(4) {
+        rooms = lengths.map(|length| Other::Zeros(length as usize));
+    }
+    (Call::Turn { axes, reverse, next }, image, rooms)
 }
 
 pub const FIXED: u64 = EVERY + TOGETHER + PLACED + LARGE;

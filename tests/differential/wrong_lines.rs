@@ -3,7 +3,8 @@
 
 use crate::cases::{Call, Case, Other};
 use crate::line::{self, Line};
-use crate::noticed::{self, Left, Noticed, NO_ROOM};
+use crate::noticed::{self, Noticed};
+use crate::over;
 use crate::rules::{self, Known, Refusal};
 use std::array::from_fn;
 
@@ -16,6 +17,13 @@ struct Asked<'a> {
     out: &'a [u8],
 }
 
+/// What is left: how many bytes were written or a refusal, and the buffer.
+#[derive(PartialEq)]
+struct Left {
+    answer: Result<u64, Refusal>,
+    out: Vec<u8>,
+}
+
 /// Where a line's voxels are: the place of the first, how far on each next one is, and how many they are.
 #[derive(Clone, Copy)]
 struct Row {
@@ -24,17 +32,23 @@ struct Row {
     count: u64,
 }
 
+const NO_ROOM: Refusal = Refusal { number: 22, place: 0 };
+
 impl Asked<'_> {
     fn refused(&self, no: Refusal) -> Left {
-        Left::refused(self.out, no)
+        Left { answer: Err(no), out: self.out.to_vec() }
     }
 
+    /// Bytes that the buffer has no room for are lost.
     fn filled(&self, bytes: &[u8]) -> Left {
-        Left::filled(self.out, bytes)
+        Left { answer: Ok(bytes.len() as u64), out: over(self.out, &bytes[..bytes.len().min(self.out.len())]) }
     }
 
     fn by(&self, line: Line) -> Left {
-        Left::by(self.out, line::line(self.file, self.image, &line, self.out.len() as u64))
+        match line::line(self.file, self.image, &line, self.out.len() as u64) {
+            Ok(bytes) => self.filled(&bytes),
+            Err(no) => self.refused(no),
+        }
     }
 
     fn right(&self) -> Left {

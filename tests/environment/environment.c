@@ -1,8 +1,8 @@
 /*
  * The calls in floating-point states that are not the default: each rounding mode, with flush-to-zero and denormals-are-zero, and
- * with every exception trapped. There read, extension_at, voxel, voxel_in, both lines, slice_of_rank, card, both swaps, the edits,
- * the calls for pieces and a turn without sform answer as in the default state, leave the same bytes in every lent buffer, and do
- * not touch the state: the only float that they compute is the vox_offset of an edit, a multiple of 16 up to 2^27, which no state
+ * with every exception trapped. There read, extension_at, voxel, voxel_in, both lines, slice_of_rank, both swaps, the edits, the
+ * calls for pieces and a turn without sform answer as in the default state, leave the same bytes in every lent buffer, and do not
+ * touch the state: the only float that they compute is the vox_offset of an edit, a multiple of 16 up to 2^27, which no state
  * rounds. Slice times, positions and the srow numbers of a turn are computed in the state, so the header asks for the default; what
  * is printed shows what another makes of one of each.
  */
@@ -69,16 +69,6 @@ enum { FILE_BYTES = offsetof(vestumbral_file, aligned) + sizeof(uint32_t) };
 _Static_assert(sizeof(vestumbral_reply) == 32 && FILE_BYTES == 124 && sizeof(vestumbral_extension) == 32, "padding");
 _Static_assert(sizeof(vestumbral_taken) == 912 && sizeof(vestumbral_turned) == 32 && sizeof(vestumbral_ranked) == 24, "padding");
 
-/* A card in so much room, and the whole buffer. */
-static vestumbral_reply card(size_t length, size_t room)
-{
-    memset(out, 0xa5, sizeof out);
-    vestumbral_reply reply = vestumbral_card(buffer, length, out, room);
-    tell("card", &reply, sizeof reply);
-    tell("card", out, sizeof out);
-    return reply;
-}
-
 static void look(size_t length)
 {
     vestumbral_file file = vestumbral_read(buffer, length);
@@ -102,8 +92,6 @@ static void look(size_t length)
             voxel = vestumbral_voxel_in(file, sizeof image, i, j, 0, 0, 0, 0, 0);
             tell("voxel_in", &voxel, sizeof voxel);
         }
-    if (card(length, sizeof out).refusal != file.refusal)
-        fail("a card is refused otherwise than reading");
 }
 
 /* What a call that writes answered, and what it left behind; then what the file is, `length` long. */
@@ -204,9 +192,8 @@ static void lines(void)
     }
 }
 
-/* The slices of ranks 0 to 2, and two ranks past them; the card at an exact fit, with more room and with a byte less. By the first
- * six durations timing is stated, by the others not: a subnormal is above zero, though some states take it for zero, and no time is
- * computed, which by the sixth would be infinite. */
+/* The slices of ranks 0 to 2, and two ranks past them. By the first six durations timing is stated, by the others not: a subnormal
+ * is above zero, though some states take it for zero, and no time is computed, which by the sixth would be infinite. */
 static void ranks(void)
 {
     static const uint32_t durations[] = {0x00000001, 0x00000c00, 0x007fffff, 0x00800000, 0x3dcccccd, 0x7f7fffff, 0x00000000,
@@ -227,13 +214,6 @@ static void ranks(void)
                     if (answer.stated != (i < 6 && k < 3) || answer.refusal != (i < 6 && k >= 3 ? 17 : 0))
                         fail("a rank is not answered as its duration asks");
                     tell("slice_of_rank", &answer, sizeof answer);
-                }
-                const size_t text = i < 6 ? 21 : 10; /* three lines and `padded 0`, or `no timing` */
-                const size_t rooms[] = {sizeof out, text, text - 1};
-                for (int k = 0; k < 3; k++) {
-                    vestumbral_reply reply = card(length, rooms[k]);
-                    if (reply.refusal != (k < 2 ? 0 : 22) || reply.length != (k < 2 ? text : 0))
-                        fail("a card is not as its duration and its room ask");
                 }
             }
 }

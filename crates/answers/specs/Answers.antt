@@ -8,8 +8,6 @@ use Rattle.refusal.specs.declared.Refusal.{Refusal}
 use Rattle.refusal.specs.declared.Verdict.{Verdict}
 use Rattle.refusal.specs.declared.Verdict.TheVariants.{Accepted, Refused}
 use Rattle.refusal.specs.Table.{refusal, decided}
-use Rattle.buffer.specs.declared.Filled.{Filled}
-use Rattle.buffer.specs.declared.Filled.TheVariants as filled
 use Rattle.extension.specs.declared.Span.{Span}
 use Rattle.extension.specs.Listing.{no_span}
 use Rattle.header.specs.declared.Header.{Header}
@@ -25,6 +23,8 @@ use Rattle.slice_rank.specs.declared.Ranked.{Ranked}
 use Rattle.slice_rank.specs.declared.Ranked.TheVariants as ranked
 use Rattle.position.specs.declared.Positioned.{Positioned}
 use Rattle.position.specs.declared.Positioned.TheVariants as position
+use Rattle.line_copy.specs.declared.Lined.{Lined}
+use Rattle.line_copy.specs.declared.Lined.TheVariants as lined
 use Rattle.edit.specs.declared.Edited.{Edited}
 use Rattle.edit.specs.declared.Edited.TheVariants.{Done, Denied}
 use Rattle.answers.specs.declared.Reply.{Reply}
@@ -48,10 +48,10 @@ abbrev pub swap_reply : Verdict → Reply
 swap_reply Accepted = record { refusal = 0; place = 0; length = 0; aligned = 0 }
 swap_reply (Refused r) = refused_reply r
 
--- the bytes that fill a lent buffer
-abbrev pub filled_reply : Filled → Reply
-filled_reply (filled.Written n) = record { refusal = 0; place = 0; length = n; aligned = 0 }
-filled_reply (filled.Refused r) = refused_reply r
+-- the bytes of a line
+abbrev pub line_reply : Lined → Reply
+line_reply (lined.Copied n) = record { refusal = 0; place = 0; length = n; aligned = 0 }
+line_reply (lined.Refused r) = refused_reply r
 
 -- whether an offset is aligned: 1, and 0 where it is not
 abbrev pub is_aligned : Bool → ℕ

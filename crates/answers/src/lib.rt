@@ -6,14 +6,14 @@
 ghost use Rattle.std.specs.Prelude.{◌≡◌};
 ghost use Rattle.reader.specs.Reading.{reading_of};
 ghost use Rattle.outline.specs.Outline.{outline_of};
-ghost use Rattle.answers.specs.Answers.{refused_reply, voxel_reply, swap_reply, filled_reply, edit_reply, big_endian};
+ghost use Rattle.answers.specs.Answers.{refused_reply, voxel_reply, swap_reply, line_reply, edit_reply, big_endian};
 ghost use Rattle.answers.specs.Answers.{is_pair, is_aligned, refused_file, file_answer, refused_extension, extension_shown, slice_answer};
 ghost use Rattle.answers.specs.Answers.{ranked_answer, position_answer};
 
-use buffer::Filled;
 use edit::Edited;
 use field::Order;
 use header::Kind;
+use line_copy::Lined;
 use outline::{Outline, Outlined};
 use position::Positioned;
 use refusal::{Refusal, Verdict};
@@ -21,7 +21,7 @@ use slice_rank::Ranked;
 use timing::Slice;
 use voxel::Located;
 
-// The answer of voxel, swap, edit and of what fills a lent buffer; `aligned` is said by an edit alone.
+// The answer of voxel, swap, edit and line; `aligned` is said by an edit alone.
 #[repr(C)]
 #[derive(Clone, Copy)]
 pub struct Reply {
@@ -315,17 +315,17 @@ pub fn swap_reply(verdict: Verdict) -> Reply
     }
 }
 
-pub fn filled_reply(filled: Filled) -> Reply
-    ensures { result ≡ filled_reply filled }
+pub fn line_reply(lined: Lined) -> Reply
+    ensures { result ≡ line_reply lined }
 {
-    match filled {
-        Filled::Written(length) => Reply {
+    match lined {
+        Lined::Copied(length) => Reply {
             refusal: 0,
             place: 0,
             length: length as u64,
             aligned: 0,
         },
-        Filled::Refused(r) => refused_reply(r),
+        Lined::Refused(r) => refused_reply(r),
     }
 }
 

@@ -6,9 +6,6 @@ use lib.ListN.{length, drop}
 use Rattle.refusal.specs.declared.Refusal.{Refusal}
 use Rattle.refusal.specs.declared.Verdict.{Verdict}
 use Rattle.refusal.specs.Table.{Row}
-use Rattle.buffer.specs.declared.Filled.{Filled}
-use Rattle.buffer.specs.declared.Filled.TheVariants as filled
-use Rattle.buffer.specs.Fill.{filled_by, left_by, Fills}
 use Rattle.offset.specs.declared.Offset.{Offset}
 use Rattle.offset.specs.declared.Offset.TheVariants.{Refused}
 use Rattle.offset.specs.Offset.{offset_of, whole_in}
@@ -29,7 +26,9 @@ use Rattle.voxel.proofs.Stepping.{whole_verdict, misplaced_verdict}
 use Rattle.voxel.proofs.Sized.{volume_with}
 use Rattle.by_file.proofs.Shown as shown
 use Rattle.line_plan.specs.Line.{line_rows}
-use Rattle.line_copy.specs.Copied.{line_in, CopiesIn}
+use Rattle.line_copy.specs.declared.Lined.{Lined}
+use Rattle.line_copy.specs.declared.Lined.TheVariants as lined
+use Rattle.line_copy.specs.Copied.{line_answer_by, line_out_by, Copies, line_in, CopiesIn}
 use Rattle.line.specs.Lines.{line_verdict, line_answer, line_out, CopiesRecord, Lines}
 use Rattle.line.proofs.Files.{volume_is, line_same, verdict_same}
 
@@ -45,13 +44,13 @@ module _ (h : Header) (file image : List ℕ) (axis : ℕ) (index out : List ℕ
 
   -- rule 8 or 9, after 2, as the offset's reading refuses
   pub record_refused : (r : Refusal) → offset_of h.scale.vox_offset ≡ Refused r
-      → CopiesRecord h file image axis index out (filled.Refused (misplaced_by h.dim r.number)) out
+      → CopiesRecord h file image axis index out (lined.Refused (misplaced_by h.dim r.number)) out
   record_refused r e =
       let v = misplaced_verdict h rest r e in
-      (ap (λ (w : Verdict). filled_by w line) v, ap (λ (w : Verdict). left_by w line out) v)
+      (ap (λ (w : Verdict). line_answer_by w line) v, ap (λ (w : Verdict). line_out_by w line out) v)
 
   -- and else the rest, by the whole number that it read
-  pub record_copies : (o : Offset) → offset_of h.scale.vox_offset ≡ o → ((r : Refusal) → o ≡ Refused r → ⊥) → (answer : Filled) (out' : List ℕ)
+  pub record_copies : (o : Offset) → offset_of h.scale.vox_offset ≡ o → ((r : Refusal) → o ≡ Refused r → ⊥) → (answer : Lined) (out' : List ℕ)
       → CopiesIn (volume h.dim (whole_in o) h.sizes.total h.sizes.steps h.kind) file image axis index out answer out'
       → CopiesRecord h file image axis index out answer out'
   record_copies o e never answer out' c =
@@ -59,12 +58,12 @@ module _ (h : Header) (file image : List ℕ) (axis : ℕ) (index out : List ℕ
       let d : CopiesIn (volume_of h) file image axis index out answer out' =
       subst (λ (n : ℕ). CopiesIn (volume h.dim n h.sizes.total h.sizes.steps h.kind) file image axis index out answer out')
       (sym r.value) c in
-      subst (λ (w : Verdict). Fills w line out answer out') (whole_verdict h rest r.whole) d
+      subst (λ (w : Verdict). Copies w line out answer out') (whole_verdict h rest r.whole) d
 
 -- ---- by a file
 
 module _ (file image : List ℕ) (axis : ℕ) (index out : List ℕ) where
-  pub lines_hidden : (r : Refusal) → outline_of 0 file ≡ Hidden r → Lines file image axis index out (filled.Refused r) out
+  pub lines_hidden : (r : Refusal) → outline_of 0 file ≡ Hidden r → Lines file image axis index out (lined.Refused r) out
   unfolding line_answer line_out line_verdict
   lines_hidden r e = let d = hidden_reading file 0 r e in (rw d, rw d)
 
@@ -75,7 +74,7 @@ module _ (file image : List ℕ) (axis : ℕ) (index out : List ℕ) where
         ap (λ (f : Shape). volume_with f (sizes_by f.dim (axis_count f.dim) (bytes_in f))) (shown.shown-shape file o e)
         ∙ volume_is file image (shown_accepted file 0 o e)
 
-    pub lines_shown : (v : Volume) → v ≡ shown.volume file o e → (answer : Filled) (out' : List ℕ)
+    pub lines_shown : (v : Volume) → v ≡ shown.volume file o e → (answer : Lined) (out' : List ℕ)
         → CopiesIn v file image axis index out answer out' → Lines file image axis index out answer out'
     unfolding line_answer line_out
     lines_shown v is answer out' c =

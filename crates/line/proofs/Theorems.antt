@@ -14,10 +14,7 @@ use Rattle.refusal.specs.declared.Verdict.TheVariants as Verdicts
 use Rattle.refusal.specs.Table.{verdict, then}
 use Rattle.refusal.proofs.Rows.{Clear, none, one, accepted_clear, decided_accepted, decided-refused, refused_never}
 use Rattle.refusal.proofs.Rows.{between, between_wider, verdict_number}
-use Rattle.buffer.specs.declared.Filled.{Filled}
-use Rattle.buffer.specs.declared.Filled.TheVariants.{Written, Refused}
 use Rattle.buffer.specs.Put.{put}
-use Rattle.buffer.specs.Fill.{Fills}
 use Rattle.buffer.proofs.Laws.{drop-put}
 use Rattle.header.specs.declared.Header.{Header}
 use Rattle.rules.specs.Rules.{image_of, shape_of_record, image_cut}
@@ -35,24 +32,26 @@ use Rattle.by_file.specs.Files.{voxel_of}
 use Rattle.by_file.proofs.Voxels.{index_located, voxel_length}
 use Rattle.line_plan.specs.Line.{with_number, along, count_along, line_outside, line_rows}
 use Rattle.line_plan.proofs.Places.{Inside, line_inside, own_number}
-use Rattle.line_copy.specs.Copied.{line_in}
+use Rattle.line_copy.specs.declared.Lined.{Lined}
+use Rattle.line_copy.specs.declared.Lined.TheVariants.{Copied, Refused}
+use Rattle.line_copy.specs.Copied.{Copies, line_in}
 use Rattle.line.specs.Lines.{line_of, file_rows, line_verdict, line_answer, line_out, record_verdict, CopiesRecord, Lines}
 use Rattle.line.proofs.Files.{two_passed, line_same, verdict_same}
 
 -- ---- The engines
 
 -- "Their answers and the whole output buffer must be equal on any input, refused or not": both calls on a file ensure `Lines` of any input,
-pub lines_agree : (file image : List ℕ) (axis : ℕ) (index out : List ℕ) {a b : Filled} {o p : List ℕ}
+pub lines_agree : (file image : List ℕ) (axis : ℕ) (index out : List ℕ) {a b : Lined} {o p : List ℕ}
     → Lines file image axis index out a o → Lines file image axis index out b p → (a ≡ b) × (o ≡ p)
 lines_agree file image axis index out x y = (x.0 ∙ sym y.0, x.1 ∙ sym y.1)
 
 -- and the call on a record ensures `CopiesRecord` by either engine.
-pub records_agree : (h : Header) (file image : List ℕ) (axis : ℕ) (index out : List ℕ) {a b : Filled} {o p : List ℕ}
+pub records_agree : (h : Header) (file image : List ℕ) (axis : ℕ) (index out : List ℕ) {a b : Lined} {o p : List ℕ}
     → CopiesRecord h file image axis index out a o → CopiesRecord h file image axis index out b p → (a ≡ b) × (o ≡ p)
 records_agree h file image axis index out x y = (x.0 ∙ sym y.0, x.1 ∙ sym y.1)
 
 -- Of a record that reading gave it is the line of the file, refusals and the whole buffer included.
-pub read_lines : (file image : List ℕ) (axis : ℕ) (index out : List ℕ) {a : Filled} {o : List ℕ} → IsAccepted file
+pub read_lines : (file image : List ℕ) (axis : ℕ) (index out : List ℕ) {a : Lined} {o : List ℕ} → IsAccepted file
     → CopiesRecord (reading_of file).header file image axis index out a o → Lines file image axis index out a o
 unfolding line_answer line_out
 read_lines file image axis index out {a = a} {o = o} accepted c =
@@ -60,16 +59,16 @@ read_lines file image axis index out {a = a} {o = o} accepted c =
     let whole = (passed_fields (shape_of_record h) (accepted_record file accepted)).whole in
     let rest = drop 1 (line_rows (volume_of h) (length file) (length image) axis index (length out)) in
     let same = sym (whole_verdict h rest whole) ∙ verdict_same file image accepted axis index (length out) in
-    let d = subst (λ (v : Verdict). Fills v (line_in (volume_of h) file image axis index) out a o) same c in
+    let d = subst (λ (v : Verdict). Copies v (line_in (volume_of h) file image axis index) out a o) same c in
     rw (line_same file image accepted axis index) at d
 
 -- what is copied is not refused
-copied_never : {k : ℕ} {r : Refusal} → Written k ≡ Refused r → ⊥
+copied_never : {k : ℕ} {r : Refusal} → Copied k ≡ Refused r → ⊥
 copied_never e = let z : ◌≡◌ {A = ℕ} 0 1 = cc in absurd (omega arith)
 
 -- ---- What a line that is copied is like
 
-module _ (file image : List ℕ) (axis : ℕ) (index : List ℕ) (room k : ℕ) (done : line_answer file image axis index room ≡ Written k) where
+module _ (file image : List ℕ) (axis : ℕ) (index : List ℕ) (room k : ℕ) (done : line_answer file image axis index room ≡ Copied k) where
   abbrev h : Header
   h = (reading_of file).header
 
@@ -80,7 +79,7 @@ module _ (file image : List ℕ) (axis : ℕ) (index : List ℕ) (room k : ℕ) 
   abbrev bytes : ℕ
   bytes = voxel_bytes h
 
-  passed : (line_verdict file image axis index room ≡ Verdicts.Accepted) × (Written (length (line_of file image axis index)) ≡ Written k)
+  passed : (line_verdict file image axis index room ≡ Verdicts.Accepted) × (Copied (length (line_of file image axis index)) ≡ Copied k)
   unfolding line_answer
   passed = decided_accepted (line_verdict file image axis index room) (λ r e. copied_never (sym e)) done
 
@@ -112,16 +111,16 @@ module _ (file image : List ℕ) (axis : ℕ) (index : List ℕ) (room k : ℕ) 
       voxel_length file image (with_number axis index j) (extent_of h (with_number axis index j)) at
 
   -- "all voxels along one axis": dim[axis] of them,
-  pub line-length : k ≡ count * bytes
+  pub line_length : k ≡ count * bytes
   unfolding line_of along
-  line-length =
+  line_length =
       let is : length (line_of file image axis index) ≡ k = cc passed.1 in
       sym is
       ∙ series-length (λ j. voxel_of file image (with_number axis index j)) bytes count each-length
       ∙ mul_comm bytes count
 
   pub line_fits : k ≤ room
-  line_fits = omega (arith, line-length, rules.2)
+  line_fits = omega (arith, line_length, rules.2)
 
   -- "through a given voxel": it has its own place among them,
   pub line_through : (get_or index (axis - 1) 0 < count) × (with_number axis index (get_or index (axis - 1) 0) ≡ index)

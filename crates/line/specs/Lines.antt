@@ -3,8 +3,6 @@
 use Rattle.std.specs.Prelude.{ℕ, ◌*◌, ◌≡◌, not, List, [], ◌∷◌, ltb, length}
 use Rattle.refusal.specs.declared.Verdict.{Verdict}
 use Rattle.refusal.specs.Table.{Row, row, verdict, then}
-use Rattle.buffer.specs.declared.Filled.{Filled}
-use Rattle.buffer.specs.Fill.{filled_by, left_by, Fills}
 use Rattle.offset.specs.Offset.{is_whole}
 use Rattle.header.specs.declared.Header.{Header}
 use Rattle.rules.specs.Rules.{image_of, shape_of_record, image_cut}
@@ -13,7 +11,8 @@ use Rattle.voxel.specs.Voxel.{voxel_bytes}
 use Rattle.voxel.specs.Steps.{no_axes, volume_of}
 use Rattle.by_file.specs.Files.{voxel_of}
 use Rattle.line_plan.specs.Line.{along, count_along, line_outside, line_rows}
-use Rattle.line_copy.specs.Copied.{line_in}
+use Rattle.line_copy.specs.declared.Lined.{Lined}
+use Rattle.line_copy.specs.Copied.{line_answer_by, line_out_by, Copies, line_in}
 
 -- ---- Of a file
 
@@ -35,12 +34,12 @@ line_verdict file image axis index out =
     then (reading_of file).verdict (verdict (file_rows (reading_of file).header (length image) axis index out))
 
 -- what the calls answer, with a buffer of `out` bytes,
-unfoldable pub line_answer : List ℕ → List ℕ → ℕ → List ℕ → ℕ → Filled
-line_answer file image axis index out = filled_by (line_verdict file image axis index out) (line_of file image axis index)
+unfoldable pub line_answer : List ℕ → List ℕ → ℕ → List ℕ → ℕ → Lined
+line_answer file image axis index out = line_answer_by (line_verdict file image axis index out) (line_of file image axis index)
 
 -- and what they leave in it
 unfoldable pub line_out : List ℕ → List ℕ → ℕ → List ℕ → List ℕ → List ℕ
-line_out file image axis index out = left_by (line_verdict file image axis index (length out)) (line_of file image axis index) out
+line_out file image axis index out = line_out_by (line_verdict file image axis index (length out)) (line_of file image axis index) out
 
 -- ---- Of a record that was read before: 2, 8 and the rules of what it is located by
 
@@ -51,12 +50,12 @@ record_verdict h file image axis index out =
     ∷ row 8 (not (is_whole h.scale.vox_offset)) 108
     ∷ line_rows (volume_of h) file image axis index out)
 
-abbrev pub CopiesRecord : Header → List ℕ → List ℕ → ℕ → List ℕ → List ℕ → Filled → List ℕ → Type 0
+abbrev pub CopiesRecord : Header → List ℕ → List ℕ → ℕ → List ℕ → List ℕ → Lined → List ℕ → Type 0
 CopiesRecord h file image axis index out answer out' =
-    Fills (record_verdict h (length file) (length image) axis index (length out)) (line_in (volume_of h) file image axis index) out answer out'
+    Copies (record_verdict h (length file) (length image) axis index (length out)) (line_in (volume_of h) file image axis index) out answer out'
 
 -- ---- What both calls on a file ensure
 
-abbrev pub Lines : List ℕ → List ℕ → ℕ → List ℕ → List ℕ → Filled → List ℕ → Type 0
+abbrev pub Lines : List ℕ → List ℕ → ℕ → List ℕ → List ℕ → Lined → List ℕ → Type 0
 Lines file image axis index out answer out' =
     (answer ≡ line_answer file image axis index (length out)) × (out' ≡ line_out file image axis index out)

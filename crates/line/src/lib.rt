@@ -7,9 +7,8 @@ ghost use Rattle.std.specs.Prelude.{◌≡◌, [], ◌∷◌};
 ghost use Rattle.outline.specs.Outline.{outline_of};
 ghost use Rattle.line.specs.Lines.{CopiesRecord, Lines};
 
-use buffer::Filled;
 use header::Header;
-use line_copy::Engine;
+use line_copy::{Engine, Lined};
 use offset::Offset;
 use outline::{Outline, Outlined};
 use voxel::Volume;
@@ -24,7 +23,7 @@ pub fn line_in(
     index: [u64; 7],
     out: &mut [u8],
     engine: Engine,
-) -> Filled
+) -> Lined
     ensures { CopiesRecord header file.now image.now axis index out.old result out.new }
 {
     let dim = header.dim;
@@ -33,7 +32,7 @@ pub fn line_in(
     let kind = header.kind;
     let offset = offset::decode(scale.vox_offset);
     match offset {
-        Offset::Refused(r) => Filled::Refused(voxel::misplaced(&dim, r.number)),
+        Offset::Refused(r) => Lined::Refused(voxel::misplaced(&dim, r.number)),
         _ => {
             let v = Volume {
                 dim,
@@ -55,7 +54,7 @@ fn line_shown(
     index: [u64; 7],
     out: &mut [u8],
     engine: Engine,
-) -> Filled
+) -> Lined
     requires { outline_of 0 file.now ≡ Outlined.Shown outline }
     ensures { Lines file.now image.now axis index out.old result out.new }
 {
@@ -82,12 +81,12 @@ fn line_by(
     index: [u64; 7],
     out: &mut [u8],
     engine: Engine,
-) -> Filled
+) -> Lined
     ensures { Lines file.now image.now axis index out.old result out.new }
 {
     let outlined = outline::outline_of(file, 0);
     match outlined {
-        Outlined::Hidden(r) => Filled::Refused(r),
+        Outlined::Hidden(r) => Lined::Refused(r),
         Outlined::Shown(o) => line_shown(file, image, o, axis, index, out, engine),
     }
 }
@@ -105,7 +104,7 @@ pub fn line(
     i6: u64,
     i7: u64,
     out: &mut [u8],
-) -> Filled
+) -> Lined
     ensures { Lines file.now image.now axis (i1 ∷ i2 ∷ i3 ∷ i4 ∷ i5 ∷ i6 ∷ i7 ∷ [])
         out.old result out.new }
 {
@@ -126,7 +125,7 @@ pub fn line_by_voxel(
     i6: u64,
     i7: u64,
     out: &mut [u8],
-) -> Filled
+) -> Lined
     ensures { Lines file.now image.now axis (i1 ∷ i2 ∷ i3 ∷ i4 ∷ i5 ∷ i6 ∷ i7 ∷ [])
         out.old result out.new }
 {

@@ -8,7 +8,6 @@ use lib.ListN.{length, take, drop, length-take, length-drop}
 use Rattle.refusal.specs.declared.Refusal.{Refusal}
 use Rattle.refusal.specs.declared.Verdict.TheVariants.{Accepted}
 use Rattle.refusal.proofs.Rows.{decided_accepted, decided-refused}
-use Rattle.buffer.specs.declared.Filled.TheVariants.{Written, Refused}
 use Rattle.buffer.specs.Put.{put}
 use Rattle.rules.specs.Rules.{holder}
 use Rattle.gather_row.specs.Series.{series}
@@ -22,6 +21,7 @@ use Rattle.line_plan.specs.declared.Course.{Course}
 use Rattle.line_plan.specs.declared.Planned.{Planned}
 use Rattle.line_plan.specs.declared.Planned.TheVariants.{Along, Unlined}
 use Rattle.line_plan.specs.Line.{with_number, along, count_along, course_of, volume_verdict, planned_by, Lies}
+use Rattle.line_copy.specs.declared.Lined.TheVariants.{Copied, Refused}
 use Rattle.line_copy.specs.Copied.{line_in, CopiesIn, line_bytes, Holds}
 
 along_never {ℓ} : {A : Type ℓ} {c : Course} {r : Refusal} → Along c ≡ Unlined r → A
@@ -52,12 +52,12 @@ module _ (v : Volume) (src : List ℕ) (image axis : ℕ) (index : List ℕ) (ou
   part_length : (k : ℕ) → k < count_along v.dim axis → length (part k) ≡ first_step v
   part_length k h = rw (part_is k h) (simp (length-take, length-drop) (omega (arith, l.held k h)))
 
-  pub line-length : length (line_bytes v src image axis index) ≡ count_along v.dim axis * first_step v
+  pub line_length : length (line_bytes v src image axis index) ≡ count_along v.dim axis * first_step v
   unfolding along
-  line-length = series-length part (first_step v) (count_along v.dim axis) part_length ∙ mul_comm (first_step v) (count_along v.dim axis)
+  line_length = series-length part (first_step v) (count_along v.dim axis) part_length ∙ mul_comm (first_step v) (count_along v.dim axis)
 
   pub line_room : length (line_bytes v src image axis index) ≤ out
-  line_room = omega (arith, line-length, l.room)
+  line_room = omega (arith, line_length, l.room)
 
   -- the same as a series, for a loop of n turns
   pub line_series : (n : ℕ) → n ≡ count_along v.dim axis → line_bytes v src image axis index ≡ series part n
@@ -105,6 +105,6 @@ module _ (v : Volume) (file image : List ℕ) (axis : ℕ) (index out : List ℕ
 
   pub copies_all : (n : ℕ) (out' src : List ℕ) → volume_verdict v (length file) (length image) axis index (length out) ≡ Accepted
       → holder v.kind file image ≡ src → out' ≡ put out 0 (line_bytes v src (length image) axis index)
-      → n ≡ length (line_bytes v src (length image) axis index) → CopiesIn v file image axis index out (Written n) out'
+      → n ≡ length (line_bytes v src (length image) axis index) → CopiesIn v file image axis index out (Copied n) out'
   unfolding line_in along put
-  copies_all n out' src a e eo en = rw (a, e) (ap Written en, eo)
+  copies_all n out' src a e eo en = rw (a, e) (ap Copied en, eo)

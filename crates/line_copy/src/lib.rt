@@ -9,9 +9,9 @@ ghost use Rattle.by_file.specs.Files.{part_of};
 ghost use Rattle.line_plan.specs.Line.{course_of, Lies};
 ghost use Rattle.line_copy.specs.Copied.{CopiesIn, line_bytes, Holds};
 
-use buffer::Filled;
 use header::Kind;
 use line_plan::{Course, Planned};
+use refusal::Refusal;
 use voxel::{Located, Volume};
 
 // How a line is copied: by the step of its axis, or voxel by voxel.
@@ -19,6 +19,13 @@ use voxel::{Located, Volume};
 pub enum Engine {
     Steps,
     Voxels,
+}
+
+// The bytes written, or the refusal.
+#[derive(Clone, Copy)]
+pub enum Lined {
+    Copied(usize),
+    Refused(Refusal),
 }
 
 // The fast engine: one copy where the voxels lie side by side, and else from voxel to voxel by the step.
@@ -122,19 +129,19 @@ pub fn line_at(
     index: [u64; 7],
     out: &mut [u8],
     engine: Engine,
-) -> Filled
+) -> Lined
     ensures { CopiesIn v file.now image.now axis index out.old result out.new }
 {
     let n = image.len();
     let planned = line_plan::plan(v, file.len(), n, axis, index, out.len());
     match planned {
-        Planned::Unlined(r) => Filled::Refused(r),
+        Planned::Unlined(r) => Lined::Refused(r),
         Planned::Along(course) => {
             let a = axis as usize;
             let kind = v.kind;
             match kind {
-                Kind::Single => Filled::Written(copy(out, file, v, n, a, index, course, engine)),
-                Kind::Pair => Filled::Written(copy(out, image, v, n, a, index, course, engine)),
+                Kind::Single => Lined::Copied(copy(out, file, v, n, a, index, course, engine)),
+                Kind::Pair => Lined::Copied(copy(out, image, v, n, a, index, course, engine)),
             }
         }
     }

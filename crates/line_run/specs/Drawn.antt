@@ -2,18 +2,17 @@
 use Rattle.std.specs.Prelude.{ℕ, zero, suc, max, List, [], ◌∷◌, length}
 use Rattle.refusal.specs.declared.Verdict.{Verdict}
 use Rattle.refusal.specs.Table.{decided}
-use Rattle.buffer.specs.declared.Filled.{Filled}
-use Rattle.buffer.specs.declared.Filled.TheVariants.{Written, Refused}
-use Rattle.buffer.specs.Fill.{filled_by, left_by}
 use Rattle.header.specs.declared.Header.{Header}
 use Rattle.reader.specs.Reading.{reading_of}
 use Rattle.voxel.specs.Steps.{volume_of}
-use Rattle.line_copy.specs.Copied.{line_in}
+use Rattle.line_copy.specs.declared.Lined.{Lined}
+use Rattle.line_copy.specs.declared.Lined.TheVariants.{Copied, Refused}
+use Rattle.line_copy.specs.Copied.{line_answer_by, line_out_by, line_in}
 use Rattle.line.specs.Lines.{record_verdict}
 
 -- a refused line counts as 0
-abbrev pub bytes_of : Filled → ℕ
-bytes_of (Written n) = n
+abbrev pub bytes_of : Lined → ℕ
+bytes_of (Copied n) = n
 bytes_of (Refused r) = 0
 
 -- the voxel that line k goes through
@@ -30,14 +29,14 @@ line_at h file axis k = line_in (volume_of h) file [] axis (through k)
 -- the buffer after the first `count` lines,
 unfoldable pub out_in : Header → List ℕ → ℕ → ℕ → List ℕ → List ℕ
 out_in h file axis zero out = out
-out_in h file axis (suc k) out = let o = out_in h file axis k out in left_by (verdict_at h file axis k o) (line_at h file axis k) o
+out_in h file axis (suc k) out = let o = out_in h file axis k out in line_out_by (verdict_at h file axis k o) (line_at h file axis k) o
 
 -- and the most bytes of one of them
 unfoldable pub most_in : Header → List ℕ → ℕ → ℕ → List ℕ → ℕ
 most_in h file axis zero out = 0
 most_in h file axis (suc k) out =
     let o = out_in h file axis k out in
-    max (most_in h file axis k out) (bytes_of (filled_by (verdict_at h file axis k o) (line_at h file axis k)))
+    max (most_in h file axis k out) (bytes_of (line_answer_by (verdict_at h file axis k o) (line_at h file axis k)))
 
 -- by a file, which is read once
 abbrev pub most : List ℕ → ℕ → ℕ → List ℕ → ℕ

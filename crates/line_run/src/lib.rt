@@ -5,18 +5,17 @@
 ghost use Rattle.std.specs.Prelude.{◌≡◌};
 ghost use Rattle.line_run.specs.Drawn.{bytes_of, most_in, out_in, most, out_after};
 
-use buffer::Filled;
 use header::Header;
-use line_copy::Engine;
+use line_copy::{Engine, Lined};
 use refusal::Verdict;
 
 // The bytes of a line, and 0 where it is refused.
-fn bytes_of(lined: Filled) -> usize
+fn bytes_of(lined: Lined) -> usize
     ensures { result ≡ bytes_of lined }
 {
     match lined {
-        Filled::Written(n) => n,
-        Filled::Refused(_) => 0,
+        Lined::Copied(n) => n,
+        Lined::Refused(_) => 0,
     }
 }
 

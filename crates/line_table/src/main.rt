@@ -7,9 +7,8 @@
 //       + struct.pack("<24h", *range(24)))' > ../crates/line_table/stdin
 #![tactic(auto)]
 
-use buffer::Filled;
 use libc::{STDIN_FILENO, STDOUT_FILENO};
-use line_copy::Engine;
+use line_copy::{Engine, Lined};
 
 fn say(text: &[u8]) {
     io::write_all(STDOUT_FILENO, text);
@@ -33,14 +32,14 @@ fn print_bytes(part: &[u8]) {
     say(b"\n");
 }
 
-fn print_lined(name: &[u8], lined: Filled, buffer: &[u8]) {
+fn print_lined(name: &[u8], lined: Lined, buffer: &[u8]) {
     say(name);
     match lined {
-        Filled::Written(n) => {
+        Lined::Copied(n) => {
             say(b" copied");
             say_number(n as u64);
         }
-        Filled::Refused(r) => {
+        Lined::Refused(r) => {
             say(b" refused");
             say_number(r.number);
             say(b" at");

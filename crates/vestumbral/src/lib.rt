@@ -11,8 +11,7 @@ ghost use Rattle.byteswap.specs.Swap.{swap_answer, swapped_file, swapped_image};
 ghost use Rattle.change.specs.declared.Change.TheVariants.{Append, Replace, Remove};
 ghost use Rattle.edit.specs.Outcome.{outcome_of, edit_answer, buffer_after};
 ghost use Rattle.line.specs.Lines.{line_answer, line_out};
-ghost use Rattle.slice_card.specs.Card.{card_answer, card_out};
-ghost use Rattle.answers.specs.Answers.{voxel_reply, swap_reply, filled_reply, edit_reply, file_answer, extension_answer, slice_answer};
+ghost use Rattle.answers.specs.Answers.{voxel_reply, swap_reply, line_reply, edit_reply, file_answer, extension_answer, slice_answer};
 ghost use Rattle.answers.specs.Answers.{ranked_answer, position_answer};
 ghost use Rattle.voxel_answers.specs.Answers.{voxel_in};
 ghost use Rattle.pieces.specs.Pieces.{fresh, taken_of};
@@ -159,13 +158,13 @@ pub extern "C" fn vestumbral_line(
     i7: u64,
     out: &mut [u8],
 ) -> Reply
-    ensures { (result ≡ filled_reply (line_answer file.now image.now axis
+    ensures { (result ≡ line_reply (line_answer file.now image.now axis
         (i1 ∷ i2 ∷ i3 ∷ i4 ∷ i5 ∷ i6 ∷ i7 ∷ []) (length out.old)))
         × (out.new ≡ line_out file.now image.now axis
         (i1 ∷ i2 ∷ i3 ∷ i4 ∷ i5 ∷ i6 ∷ i7 ∷ []) out.old) }
 {
     let lined = line::line(file, image, axis, i1, i2, i3, i4, i5, i6, i7, out);
-    answers::filled_reply(lined)
+    answers::line_reply(lined)
 }
 
 // The same answers and bytes as vestumbral_line, each voxel located by itself.
@@ -183,23 +182,13 @@ pub extern "C" fn vestumbral_line_by_voxel(
     i7: u64,
     out: &mut [u8],
 ) -> Reply
-    ensures { (result ≡ filled_reply (line_answer file.now image.now axis
+    ensures { (result ≡ line_reply (line_answer file.now image.now axis
         (i1 ∷ i2 ∷ i3 ∷ i4 ∷ i5 ∷ i6 ∷ i7 ∷ []) (length out.old)))
         × (out.new ≡ line_out file.now image.now axis
         (i1 ∷ i2 ∷ i3 ∷ i4 ∷ i5 ∷ i6 ∷ i7 ∷ []) out.old) }
 {
     let lined = line::line_by_voxel(file, image, axis, i1, i2, i3, i4, i5, i6, i7, out);
-    answers::filled_reply(lined)
-}
-
-// Writes the slice card into the front of a lent buffer: 1 to 15, then 22.
-#[unsafe(no_mangle)]
-pub extern "C" fn vestumbral_card(file: &[u8], out: &mut [u8]) -> Reply
-    ensures { (result ≡ filled_reply (card_answer (reading_of file.now) (length out.old)))
-        × (out.new ≡ card_out (reading_of file.now) out.old) }
-{
-    let filled = slice_card::card(file, out);
-    answers::filled_reply(filled)
+    answers::line_reply(lined)
 }
 
 // Turns a volume into the fronts of two lent buffers, of which the second is for a pair's image file: 1 to 15, 16 for a pair,

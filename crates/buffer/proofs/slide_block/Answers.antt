@@ -1,0 +1,15 @@
+-- `slide_block` meets its contract: what is copied out to the local array and back is what stood there.
+use Prim.Native.Nat.{◌+◌, ◌-◌}
+use native.Mathlib.Omega.{arith}
+use Rattle.buffer.proofs.Moves.{by_way_of}
+use borrow.Author.Rules.{rules}
+use Rattle.buffer.proofs.slide_block.Goals as goal
+
+pub returns : goal.returns
+returns c =
+    let back = c.before.before in
+    let out = back.before.before.before.before.before in
+    let a = out.args in
+    by_way_of a.buf.now _ _ _ a.from a.to a.n (a.from + a.n - a.from) (a.n - 0) (omega arith) (omega arith) (omega arith)
+    out.copy_in.ensures
+    back.copy_in-2.ensures

@@ -1,0 +1,20 @@
+-- `slide_up` meets its contract: what was to slide in all is what is left to slide, since a slide upwards is one of its last block and
+-- then one of the others (`up_in_two`).
+use mathlib.Core.Path.{◌≡◌, refl, sym, ◌∙◌}
+use Prim.Native.Nat.{◌+◌, ◌-◌, ◌≤◌}
+use native.Mathlib.Omega.{arith}
+use lib.ListN.{length, take, drop}
+use borrow.Author.Rules.{rules}
+use Rattle.buffer.specs.Put.{put}
+use Rattle.buffer.proofs.Moves.{up_in_two}
+use Rattle.buffer.proofs.slide_up.Given as goal
+
+abbrev pub invariant-loop-left : goal.invariant-loop-left
+invariant-loop-left l =
+    (l.from ≤ l.to)
+    × (l.to + l.left ≤ length l.buf)
+    × (length l.buf ≡ length l.initial.buf)
+    × (put l.initial.buf l.to (take l.n (drop l.from l.initial.buf)) ≡ put l.buf l.to (take l.left (drop l.from l.buf)))
+
+abbrev pub decreases-loop-left : goal.decreases-loop-left
+decreases-loop-left l = l.left

@@ -1,0 +1,25 @@
+-- `locate` meets its contract: a file's refusal, and else the answer by its outline.
+use mathlib.Core.Path.{sym, ◌∙◌}
+use Rattle.outline.proofs.Outlines.{hidden_answer, shown_answer}
+use Rattle.voxel.specs.declared.Located.TheVariants.{Unlocated}
+use Rattle.by_file.specs.Files.{located_of}
+use borrow.Author.Rules.{rules}
+use Rattle.by_file.proofs.locate.Goals as goal
+
+pub locate_shown-requires : goal.locate_shown-requires
+locate_shown-requires c = sym c.outline_of-outlined.ensures ∙ c.in-Shown.is
+
+pub returns-in-Hidden : goal.returns-in-Hidden
+unfolding located_of
+returns-in-Hidden c =
+    let k = c.before in
+    let t = c.outlined-1.given in
+    hidden_answer k.args.file.now 0 _ Unlocated t.0.0 (sym k.outline_of-outlined.ensures ∙ t.1)
+
+pub returns-in-Shown : goal.returns-in-Shown
+unfolding located_of
+returns-in-Shown c =
+    let k = c.before.before in
+    let t = c.outlined-in-Shown-1.given in
+    c.locate_shown.ensures
+    ∙ shown_answer k.args.file.now 0 _ Unlocated t.0.0 (sym k.outline_of-outlined.ensures ∙ t.1)

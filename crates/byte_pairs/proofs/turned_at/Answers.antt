@@ -1,0 +1,17 @@
+-- `turned_at` meets its contract: the pair that is loaded has the two bytes.
+use mathlib.Core.Path.{ap, ◌∙◌}
+use mathlib.Core.List.{reverse}
+use Rattle.byte_pairs.specs.Pairs.{pair_bytes}
+use Rattle.byte_pairs.proofs.Pairs.{pair_bytes_lem}
+use borrow.Author.Rules.{rules}
+use Rattle.byte_pairs.proofs.turned_at.Goals as goal
+
+pub returns : goal.returns
+returns c =
+    let load = c.before in
+    let known = load.before in
+    let start = known.before in
+    c.turned.ensures
+    ∙ ap reverse
+    (ap pair_bytes load.pair_at.ensures
+    ∙ pair_bytes_lem start.args.s.now (λ i. (known.shared_slice_known-1.given i).fits) start.args.at start.requires)

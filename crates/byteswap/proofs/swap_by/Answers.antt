@@ -1,0 +1,16 @@
+-- `swap_by` meets its contract: a refused file refuses the swap.
+use mathlib.Core.Path.{sym, ◌∙◌}
+use Rattle.byteswap.proofs.Answers.{swaps_hidden}
+use borrow.Author.Rules.{rules}
+use Rattle.byteswap.proofs.swap_by.Goals as goal
+
+pub swap_shown-requires : goal.swap_shown-requires
+swap_shown-requires c =
+    sym c.outline_of-outlined.ensures ∙ c.in-Shown.is
+
+pub returns-in-Hidden : goal.returns-in-Hidden
+returns-in-Hidden c =
+    let hidden = c.outlined-1.given in
+    let outline = c.before in
+    let a = outline.args in
+    swaps_hidden a.file.now a.image.now hidden.0.0 (sym outline.outline_of-outlined.ensures ∙ hidden.1)

@@ -1,2 +1,0 @@
--- The laws of the card's lines.
-pub mod Texts

@@ -1,2 +1,0 @@
--- The definition that the contracts cite.
-pub mod Decimal

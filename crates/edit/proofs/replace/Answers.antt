@@ -1,0 +1,10 @@
+-- `replace` meets its contract: it is `apply` with that edit.
+use mir.Syntax.{w32}
+use mir.ValLaws.{to_z-of_z}
+use borrow.Author.Rules.{rules}
+use Rattle.edit.proofs.replace.Goals as goal
+
+pub returns : goal.returns
+returns c =
+    let s = c.before.before.before.before.before.before in
+    rw (to_z-of_z w32 s.args.code s.ranges.code) at c.apply.ensures

@@ -1,0 +1,13 @@
+-- `Walker::step` meets its contract: the part of the file that is handed on is `rest_of`, whatever the state is.
+use borrow.Author.Rules.{rules}
+use Rattle.extension.specs.Walk.{step_of}
+use Rattle.extension.proofs.Regions.{part_rest}
+use Rattle.extension.proofs.Walker.step.Goals as goal
+
+pub returns : goal.returns
+unfolding step_of
+returns c =
+    let n = c.before.before in
+    let m = n.before in
+    let a = m.args in
+    rw (← part_rest a.file.now a.self.end a.self.at _ _ m.lesser-stop.ensures n.lesser-from.ensures) c.step_over.ensures

@@ -1,0 +1,17 @@
+-- `u32s_out` meets its contract: at each turn the first i places hold the numbers, and the rest is as it was.
+use Prim.Native.Nat.{◌+◌, ◌*◌, ◌-◌, ◌≤◌}
+use mathlib.Core.Path.{◌≡◌}
+use mathlib.Core.List.{◌++◌}
+use native.Mathlib.Omega.{arith}
+use borrow.Author.Rules.{rules}
+use lib.ListN.{length, drop, length-set}
+use Rattle.field.specs.Numbers.{tabulate, u32_at}
+use Rattle.field.proofs.Tabulate.{tabulate_turn, tabulate_done}
+use Rattle.field.proofs.u32s_out.Given as goal
+
+abbrev pub invariant-loop-i : goal.invariant-loop-i
+invariant-loop-i l =
+    (l.i ≤ length l.initial.out) × (length l.out ≡ length l.initial.out) × (l.out ≡ tabulate (λ k. u32_at l.order l.s (l.at + k * 4)) l.i ++ drop l.i l.initial.out)
+
+abbrev pub decreases-loop-i : goal.decreases-loop-i
+decreases-loop-i l = length l.initial.out - l.i

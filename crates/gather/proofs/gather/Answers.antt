@@ -1,0 +1,19 @@
+-- `gather` meets its contract: axes 0 to 6 are all of them.
+use mathlib.Core.Path.{◌≡◌}
+use native.Mathlib.Omega.{arith}
+use lib.ListN.{take}
+use lib.Seq.{take_all}
+use borrow.Author.Rules.{rules}
+use Rattle.gather.proofs.gather.Goals as goal
+
+pub up_to-requires : goal.up_to-requires
+up_to-requires c =
+    let s = c.before.before.before.before in
+    let all : take 7 s.args.axes ≡ s.args.axes = take_all 7 s.args.axes (omega arith) in
+    ((omega arith, omega arith), ((s.requires.0, omega arith), rw all s.requires.1))
+
+pub returns : goal.returns
+returns c =
+    let s = c.before.before.before.before.before.before.before.before in
+    let all : take 7 s.args.axes ≡ s.args.axes = take_all 7 s.args.axes (omega arith) in
+    rw all at c.up_to.ensures.0

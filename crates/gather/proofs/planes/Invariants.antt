@@ -1,0 +1,24 @@
+-- `planes` meets its contract: each turn lays one plane more.
+use mathlib.Core.Path.{◌≡◌, refl, ap, ◌∙◌}
+use mathlib.Core.List.{List, [], ◌∷◌}
+use Prim.Native.Nat.{ℕ, ◌+◌, ◌-◌, ◌*◌, ◌≤◌}
+use native.Mathlib.Nat.{mul-le-mul_left}
+use native.Mathlib.Omega.{arith}
+use lib.ListN.{length}
+use borrow.Author.Rules.{rules}
+use Rattle.gather_row.specs.Gather.{reach, gathered}
+use Rattle.gather.specs.Rows.{laid, stacked}
+use Rattle.gather_row.proofs.Places.{inside_from}
+use Rattle.gather.proofs.Laid.{stacked_start, stacked_next}
+use Rattle.gather.proofs.planes.Given as goal
+
+abbrev pub invariant-loop-k : goal.invariant-loop-k
+invariant-loop-k l =
+    (l.n ≡ l.z.length)
+    × (l.out ≡ stacked l.at l.lift l.pitch (λ q j. gathered l.b l.src (l.from + reach l.z q + reach l.y j) (l.x ∷ [])) l.y.length l.k l.initial.out)
+    × (l.k ≤ l.n)
+    × (length l.out ≡ length l.initial.out)
+    × (length l.block ≡ length l.initial.block)
+
+abbrev pub decreases-loop-k : goal.decreases-loop-k
+decreases-loop-k l = l.n - l.k

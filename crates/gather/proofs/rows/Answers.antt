@@ -1,0 +1,67 @@
+-- `rows` meets its contract: each turn lays one row more.
+use mathlib.Core.Path.{◌≡◌, refl, ap}
+use mathlib.Core.List.{[], ◌∷◌}
+use Prim.Native.Nat.{ℕ, ◌+◌, ◌-◌, ◌≤◌}
+use native.Mathlib.Nat.{mul-le-mul_left}
+use native.Mathlib.Omega.{arith}
+use lib.ListN.{length}
+use borrow.Author.Rules.{rules}
+use Rattle.gather_row.specs.Gather.{reach, gathered}
+use Rattle.gather.specs.Rows.{laid}
+use Rattle.gather_row.proofs.Places.{inside_row, inside_from, length-row}
+use Rattle.gather.proofs.Laid.{laid_start, laid_next}
+use Rattle.gather.proofs.rows.Goals as goal
+
+pub loop-j-init : goal.loop-j-init
+loop-j-init c = (refl, laid_start _ _ _ _, omega arith, refl)
+
+pub overflow_mul-pitch : goal.overflow_mul-pitch
+overflow_mul-pitch c =
+    let v = c.loop-j in
+    let s = c.before.before.before.before.before in
+    let a = s.args in
+    let below = mul-le-mul_left {m = v.j} {n = a.y.length - 1} a.pitch (omega arith) in
+    omega arith
+
+pub overflow_add-at : goal.overflow_add-at
+overflow_add-at c =
+    let v = c.loop-j in
+    let s = c.before.before.before.before.before in
+    let a = s.args in
+    let below = mul-le-mul_left {m = v.j} {n = a.y.length - 1} a.pitch (omega arith) in
+    omega arith
+
+pub place_of-requires : goal.place_of-requires
+place_of-requires c =
+    let v = c.loop-j in
+    let s = c.before.before.before.before.before in
+    let a = s.args in
+    let row = inside_row a.b (length a.src.now) a.from a.x a.y s.requires.1.0 v.j (omega arith) in
+    (omega arith, omega (arith, inside_from _ _ _ _ row))
+
+pub row-requires : goal.row-requires
+row-requires c =
+    let v = c.loop-j in
+    let s = c.before.before.before.before.before.before in
+    let a = s.args in
+    let row = inside_row a.b (length a.src.now) a.from a.x a.y s.requires.1.0 v.j (omega arith) in
+    let below = mul-le-mul_left {m = v.j} {n = a.y.length - 1} a.pitch (omega arith) in
+    let len = length-row a.b a.src.now (a.from + reach a.y v.j) a.x row in
+    rw c.place_of.ensures.0 (s.requires.0, (row, omega (arith, v.invariant.3)))
+
+pub loop-j-preserved : goal.loop-j-preserved
+loop-j-preserved c =
+    let v = c.loop-j in
+    let s = c.before.before.before.before.before.before.before.before.before in
+    let a = s.args in
+    let place = c.place_of.ensures.0 in
+    let same = ap (λ (i : ℕ). gathered a.b a.src.now i (a.x ∷ [])) place in
+    let more = laid_next a.at a.pitch _ v.j _ _ _ _ v.invariant.1 c.row.ensures.0 same in
+    (v.invariant.0, more, omega arith, omega (arith, v.invariant.3))
+
+pub returns : goal.returns
+returns c =
+    let v = c.loop-j in
+    let a = c.args in
+    let e : v.j ≡ a.y.length = omega arith in
+    rw e at v.invariant.1

@@ -1,0 +1,23 @@
+-- `rows` meets its contract: each turn lays one row more.
+use mathlib.Core.Path.{◌≡◌, refl, ap}
+use mathlib.Core.List.{[], ◌∷◌}
+use Prim.Native.Nat.{ℕ, ◌+◌, ◌-◌, ◌≤◌}
+use native.Mathlib.Nat.{mul-le-mul_left}
+use native.Mathlib.Omega.{arith}
+use lib.ListN.{length}
+use borrow.Author.Rules.{rules}
+use Rattle.gather_row.specs.Gather.{reach, gathered}
+use Rattle.gather.specs.Rows.{laid}
+use Rattle.gather_row.proofs.Places.{inside_row, inside_from, length-row}
+use Rattle.gather.proofs.Laid.{laid_start, laid_next}
+use Rattle.gather.proofs.rows.Given as goal
+
+abbrev pub invariant-loop-j : goal.invariant-loop-j
+invariant-loop-j l =
+    (l.n ≡ l.y.length)
+    × (l.out ≡ laid l.at l.pitch (λ q. gathered l.b l.src (l.from + reach l.y q) (l.x ∷ [])) l.j l.initial.out)
+    × (l.j ≤ l.n)
+    × (length l.out ≡ length l.initial.out)
+
+abbrev pub decreases-loop-j : goal.decreases-loop-j
+decreases-loop-j l = l.n - l.j

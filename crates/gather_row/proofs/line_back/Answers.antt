@@ -1,0 +1,39 @@
+-- `line_back` meets its contract: the voxels of the copied line are those of the source.
+use mathlib.Core.Path.{◌≡◌}
+use Prim.Native.Nat.{◌+◌, ◌-◌, ◌*◌}
+use native.Mathlib.Omega.{arith}
+use lib.ListN.{length}
+use Rattle.gather_row.specs.Gather.{downwards}
+use Rattle.gather_row.proofs.Places.{inside_some}
+use Rattle.gather_row.proofs.Lines.{inside_copy, inside_whole, gathered_copy}
+use borrow.Author.Rules.{rules}
+use Rattle.gather_row.proofs.line_back.Goals as goal
+
+pub overflow_add-end : goal.overflow_add-end
+overflow_add-end c =
+    let s = c.before.before.before in
+    let a = s.args in
+    let way = downwards s.requires.1.0.0 s.requires.1.0.1 in
+    let whole = inside_whole a.b a.axis way (length a.src.now) a.from s.requires.1.1.0 in
+    omega arith
+
+pub one_by_one-requires : goal.one_by_one-requires
+one_by_one-requires c =
+    let s = c.before.before.before.before.before.before.before.before.before in
+    let a = s.args in
+    let way = downwards s.requires.1.0.0 s.requires.1.0.1 in
+    let some = inside_some a.b (length a.src.now) a.from a.axis s.requires.1.1.0 in
+    let n : a.from + a.axis.length * a.b - a.from ≡ a.axis.length * a.b = omega arith in
+    let copied = c.copy_in.ensures in
+    let same = gathered_copy a.b a.axis way a.src.now _ _ a.from _ s.requires.1.1.0 n copied in
+    (s.requires.0.0, (inside_copy a.b a.axis way _ some (omega arith), rw same s.requires.1.1.1))
+
+pub returns : goal.returns
+returns c =
+    let s = c.before.before.before.before.before.before.before.before.before.before.before.before in
+    let a = s.args in
+    let way = downwards s.requires.1.0.0 s.requires.1.0.1 in
+    let n : a.from + a.axis.length * a.b - a.from ≡ a.axis.length * a.b = omega arith in
+    let copied = c.copy_in.ensures in
+    let same = gathered_copy a.b a.axis way a.src.now _ _ a.from _ s.requires.1.1.0 n copied in
+    rw same at c.one_by_one.ensures

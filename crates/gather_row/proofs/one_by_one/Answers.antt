@@ -1,0 +1,119 @@
+-- `one_by_one` meets its contract: each turn writes the voxel at the place right behind those that stand, and goes on to the next place.
+use mathlib.Core.Path.{◌≡◌, sym, ap, ◌∙◌}
+use mathlib.Core.List.{[]}
+use Prim.Native.Nat.{ℕ, ◌+◌, ◌-◌, ◌≤◌}
+use native.Mathlib.Omega.{arith}
+use lib.ListN.{length, take, drop}
+use borrow.Author.Rules.{rules}
+use Rattle.gather_row.specs.Gather.{reach, gathered}
+use Rattle.gather_row.proofs.Progress.{Progress, progress_start, progress_room, progress_next, progress_done}
+use Rattle.gather_row.proofs.Places.{gathered_snoc, gathered_none, inside_line, inside_some, length_none, reach_next}
+use Rattle.gather_row.proofs.one_by_one.Goals as goal
+
+pub overflow_sub-last : goal.overflow_sub-last
+overflow_sub-last c =
+    let s = c.before.before.before in
+    let a = s.args in
+    let some = inside_some a.b (length a.src.now) a.from a.axis s.requires.1.0 in
+    omega arith
+
+pub place_of-place-requires : goal.place_of-place-requires
+place_of-place-requires c =
+    let s = c.before.before.before in
+    let a = s.args in
+    let some = inside_some a.b (length a.src.now) a.from a.axis s.requires.1.0 in
+    let fit = inside_line a.b (length a.src.now) a.from a.axis 0 s.requires.1.0 some in
+    (omega arith, omega arith)
+
+pub loop-j-init : goal.loop-j-init
+loop-j-init c =
+    let s = c.before.before.before.before in
+    let a = s.args in
+    let some = inside_some a.b (length a.src.now) a.from a.axis s.requires.1.0 in
+    let whole = gathered_snoc a.b a.src.now a.from [] a.axis in
+    let start = progress_start a.out.now a.at _ _ (rw whole at s.requires.1.1) in
+    (omega arith, omega arith, c.place_of-place.ensures.0, start)
+
+pub copy_voxel-requires : goal.copy_voxel-requires
+copy_voxel-requires c =
+    let v = c.loop-j in
+    let s = c.before.before.before.before.before.before.before in
+    let a = s.args in
+    let fit = inside_line a.b (length a.src.now) a.from a.axis v.j s.requires.1.0 (omega arith) in
+    let one = length_none a.b a.src.now (a.from + reach a.axis v.j) fit in
+    let room = progress_room _ _ _ _ _ _ _ v.invariant.3 (omega arith) in
+    (s.requires.0, (omega (arith, v.invariant.2), omega arith))
+
+pub overflow_sub-place : goal.overflow_sub-place
+overflow_sub-place c =
+    let v = c.loop-j in
+    let s = c.before.before.before.before.before.before.before.before.before.before.before in
+    let a = s.args in
+    let next = reach_next a.axis v.j (omega arith) in
+    omega (arith, v.invariant.2)
+
+pub overflow_add-place : goal.overflow_add-place
+overflow_add-place c =
+    let v = c.loop-j in
+    let s = c.before.before.before.before.before.before.before.before.before.before.before.before in
+    let a = s.args in
+    let next = reach_next a.axis v.j (omega arith) in
+    let fit = inside_line a.b (length a.src.now) a.from a.axis (v.j + 1) s.requires.1.0 (omega arith) in
+    omega (arith, v.invariant.2)
+
+pub overflow_add-to : goal.overflow_add-to
+overflow_add-to c =
+    let v = c.loop-j in
+    let s = c.before.before.before.before.before.before.before.before.before.before.before.before in
+    let a = s.args in
+    let fit = inside_line a.b (length a.src.now) a.from a.axis v.j s.requires.1.0 (omega arith) in
+    let one = length_none a.b a.src.now (a.from + reach a.axis v.j) fit in
+    let room = progress_room _ _ _ _ _ _ _ v.invariant.3 (omega arith) in
+    omega arith
+
+pub loop-j-preserved : goal.loop-j-preserved
+loop-j-preserved c =
+    let v = c.loop-j in
+    let s = c.before.before.before.before.before.before.before.before.before.before.before.before in
+    let a = s.args in
+    let next = reach_next a.axis v.j (omega arith) in
+    let fit = inside_line a.b (length a.src.now) a.from a.axis v.j s.requires.1.0 (omega arith) in
+    let one = length_none a.b a.src.now (a.from + reach a.axis v.j) fit in
+    let place = ap (λ (i : ℕ). take a.b (drop i a.src.now)) v.invariant.2 in
+    let part = place ∙ sym (gathered_none a.b a.src.now (a.from + reach a.axis v.j)) in
+    let call = c.copy_voxel.ensures in
+    let more = progress_next _ _ _ _ _ _ _ v.invariant.3 (omega arith) _ _ (v.to + a.b) call part (omega arith) in
+    (v.invariant.0, omega arith, omega (arith, v.invariant.2), more)
+
+pub copy_voxel-requires-2 : goal.copy_voxel-requires-2
+copy_voxel-requires-2 c =
+    let v = c.loop-j in
+    let s = c.before.before.before.before.before.before.before in
+    let a = s.args in
+    let fit = inside_line a.b (length a.src.now) a.from a.axis v.j s.requires.1.0 (omega arith) in
+    let one = length_none a.b a.src.now (a.from + reach a.axis v.j) fit in
+    let room = progress_room _ _ _ _ _ _ _ v.invariant.3 (omega arith) in
+    (s.requires.0, (omega (arith, v.invariant.2), omega arith))
+
+pub overflow_add-result : goal.overflow_add-result
+overflow_add-result c =
+    let v = c.loop-j in
+    let s = c.before.before.before.before.before.before.before.before.before.before in
+    let a = s.args in
+    let fit = inside_line a.b (length a.src.now) a.from a.axis v.j s.requires.1.0 (omega arith) in
+    let one = length_none a.b a.src.now (a.from + reach a.axis v.j) fit in
+    let room = progress_room _ _ _ _ _ _ _ v.invariant.3 (omega arith) in
+    omega arith
+
+pub returns : goal.returns
+returns c =
+    let v = c.loop-j in
+    let s = c.before.before.before.before.before.before.before.before.before.before in
+    let a = s.args in
+    let fit = inside_line a.b (length a.src.now) a.from a.axis v.j s.requires.1.0 (omega arith) in
+    let one = length_none a.b a.src.now (a.from + reach a.axis v.j) fit in
+    let place = ap (λ (i : ℕ). take a.b (drop i a.src.now)) v.invariant.2 in
+    let part = place ∙ sym (gathered_none a.b a.src.now (a.from + reach a.axis v.j)) in
+    let call = c.copy_voxel-2.ensures in
+    let all = progress_next _ _ _ _ _ _ _ v.invariant.3 (omega arith) _ _ (v.to + a.b) call part (omega arith) in
+    rw (gathered_snoc a.b a.src.now a.from [] a.axis) (progress_done _ _ _ _ _ _ _ all (omega arith))

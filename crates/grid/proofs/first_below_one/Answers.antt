@@ -1,0 +1,43 @@
+-- `grid::first_below_one` meets its contract: none of dim[1] to dim[i] is below 1, and the first that is stays the first.
+use mathlib.Core.Path.{◌≡◌, refl, sym, ◌∙◌}
+use mathlib.Core.Bool.{true, false}
+use Prim.Native.Nat.{suc, ◌-◌, ◌≤◌}
+use native.Mathlib.Omega.{arith}
+use native.Mathlib.Numerals.{add-one}
+use borrow.Author.Rules.{rules}
+use borrow.Author.Tests.{le-ltb, lt-ltb}
+use Rattle.number.specs.Natural.{natural_of}
+use Rattle.grid.specs.Axes.{dim_at, below_one, first_below}
+use Rattle.grid.proofs.Axes.{first_found, first_passed, first_stays}
+use Rattle.grid.proofs.Entry.{below_natural}
+use Rattle.grid.proofs.first_below_one.Goals as goal
+
+pub loop-i-init : goal.loop-i-init
+unfolding first_below
+loop-i-init c = (omega arith, refl)
+
+pub returns-then-axis_length-lt1 : goal.returns-then-axis_length-lt1
+returns-then-axis_length-lt1 c =
+    let lo = c.before.before.before in
+    let dim = lo.args.dim.now in
+    let i = lo.loop-i.i in
+    let e = rw add-one at c.axis_length.ensures.0 in
+    let d = dim_at dim (suc i) in
+    let here : below_one d ≡ true = below_natural d ∙ lt-ltb (natural_of d) 1 (omega arith) in
+    add-one i ∙ sym (first_stays dim (suc i) lo.args.n i (omega arith) (first_found dim i lo.loop-i.invariant.1 here))
+
+pub loop-i-preserved : goal.loop-i-preserved
+loop-i-preserved c =
+    let lo = c.before.before.before in
+    let dim = lo.args.dim.now in
+    let i = lo.loop-i.i in
+    let e = rw add-one at c.axis_length.ensures.0 in
+    let d = dim_at dim (suc i) in
+    let here : below_one d ≡ false = below_natural d ∙ le-ltb (natural_of d) 1 (omega arith) in
+    (omega arith, rw add-one (first_passed dim i lo.loop-i.invariant.1 here))
+
+pub returns : goal.returns
+returns c =
+    let lo = c.before in
+    let end : lo.loop-i.i ≡ lo.args.n = omega arith in
+    sym (rw end at lo.loop-i.invariant.1)

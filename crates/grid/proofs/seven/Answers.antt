@@ -1,0 +1,25 @@
+-- `grid::seven` meets its contract: after k turns the array has the lengths of dim[1] to dim[k], and 1 past them.
+use mathlib.Core.Path.{◌≡◌, refl}
+use Prim.Native.Nat.{◌-◌, ◌≤◌}
+use native.Mathlib.Omega.{arith}
+use native.Mathlib.Numerals.{add-one}
+use borrow.Author.Rules.{rules}
+use Rattle.grid.specs.Axes.{axes, seven_axes}
+use Rattle.grid.proofs.Axes.{seven_next}
+use Rattle.grid.proofs.seven.Goals as goal
+
+pub loop-k-init : goal.loop-k-init
+unfolding seven_axes axes
+loop-k-init c = (omega arith, refl)
+
+pub loop-k-preserved : goal.loop-k-preserved
+loop-k-preserved c =
+    let lo = c.before.before in
+    let a = lo.args in
+    (omega arith, rw (lo.loop-k.invariant.1, c.axis_length.ensures.0, add-one lo.loop-k.k) (seven_next a.dim.now lo.loop-k.k (omega arith)))
+
+pub returns : goal.returns
+returns c =
+    let lo = c.before in
+    let end : lo.loop-k.k ≡ lo.args.n = omega arith in
+    rw (← end) lo.loop-k.invariant.1

@@ -1,0 +1,21 @@
+-- `check_end` meets its contract: rule 11, then rule 12.
+use mathlib.Core.Path.{sym, ◌∙◌}
+use Rattle.refusal.specs.Table.{verdict}
+use borrow.Author.Rules.{rules}
+use Rattle.layout.proofs.check_end.Goals as goal
+
+pub returns-then-cut_short : goal.returns-then-cut_short
+unfolding verdict
+returns-then-cut_short c = rw (sym c.cut_short.ensures ∙ c.if-cut_short.true)
+
+pub returns-then-cut_extender : goal.returns-then-cut_extender
+unfolding verdict
+returns-then-cut_extender c =
+    let x = c.before in
+    simp (sym x.cut_short.ensures ∙ x.if-cut_short.false, sym x.cut_extender.ensures ∙ c.if-cut_extender.true)
+
+pub returns : goal.returns
+unfolding verdict
+returns c =
+    let x = c.before in
+    simp (sym x.cut_short.ensures ∙ x.if-cut_short.false, sym x.cut_extender.ensures ∙ c.if-cut_extender.false)

@@ -1,0 +1,17 @@
+-- `check_in` meets its contract: rules 1 to 4, and then the rest.
+use mathlib.Core.Path.{sym, ◌∙◌}
+use Rattle.layout.proofs.Checking.{checks_start}
+use borrow.Author.Rules.{rules}
+use Rattle.layout.proofs.check_in.Goals as goal
+
+pub check_fields-requires : goal.check_fields-requires
+check_fields-requires c =
+    let r = c.before in
+    (r.requires, sym r.start_in-start.ensures ∙ c.in-Read.is)
+
+pub returns-in-Unread : goal.returns-in-Unread
+returns-in-Unread c =
+    let r = c.before in
+    let a = r.args in
+    let t = c.start-1.given in
+    checks_start a.file.now a.len t.0.0 (sym r.start_in-start.ensures ∙ t.1)

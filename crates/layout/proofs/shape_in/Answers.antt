@@ -1,0 +1,20 @@
+-- `shape_in` meets its contract: each field is read where `shape_in` has it.
+use mathlib.Core.Path.{◌∙◌}
+use mir.Syntax.{w16}
+use mir.ValLaws.{to_z-of_z}
+use Rattle.layout.specs.File.{shape_in}
+use borrow.Author.Rules.{rules}
+use Rattle.layout.proofs.shape_in.Goals as goal
+
+pub returns : goal.returns
+unfolding shape_in
+returns c =
+    let b = c.before in
+    let d = b.before in
+    λ i. record {
+      kind = d.args.kind;
+      dim = d.dims.ensures i;
+      datatype = (to_z-of_z w16 d.read_i16.result (record { sfits = d.read_i16.type-inv }) ∙ d.read_i16.ensures) i;
+      bitpix = (to_z-of_z w16 b.read_i16-2.result (record { sfits = b.read_i16-2.type-inv }) ∙ b.read_i16-2.ensures) i;
+      vox_offset = c.read_u32.ensures i;
+    }

@@ -1,0 +1,21 @@
+-- `by_voxels` meets its contract: after k turns the first k voxels stand in the buffer.
+use Prim.Native.Nat.{ℕ, ◌+◌, ◌-◌, ◌<◌}
+use mathlib.Core.Path.{◌≡◌, ap, ◌∙◌}
+use mathlib.Core.List.{List}
+use native.Mathlib.Omega.{arith}
+use lib.ListN.{length}
+use borrow.Author.Rules.{rules}
+use Rattle.gather_row.proofs.Progress.{Progress, progress_start, progress_room, progress_next, progress_done}
+use Rattle.voxel.specs.declared.Located.{Located}
+use Rattle.voxel.specs.Steps.{stepped_by}
+use Rattle.by_file.specs.Files.{part_of}
+use Rattle.line_plan.specs.Line.{with_number, count_along}
+use Rattle.line_copy.proofs.Engines.{part_holds, line_room, line_series}
+use Rattle.line_copy.proofs.by_voxels.Given as goal
+
+abbrev pub invariant-loop-k : goal.invariant-loop-k
+invariant-loop-k l =
+    (l.count ≡ count_along l.v.dim l.axis) × Progress l.initial.out 0 (λ i. part_of (stepped_by l.v l.image (with_number l.axis l.index i)) l.src) l.count l.out l.to l.k
+
+abbrev pub decreases-loop-k : goal.decreases-loop-k
+decreases-loop-k l = l.count - l.k

@@ -1,0 +1,24 @@
+-- `copy` meets its contract: what lies along the course is the line (proofs/Engines.antt).
+use mathlib.Core.Path.{refl}
+use native.Mathlib.Omega.{arith}
+use lib.ListN.{length}
+use Rattle.line_copy.proofs.Engines.{line_room, course_inside, course_gathers}
+use borrow.Author.Rules.{rules}
+use Rattle.line_copy.proofs.copy.Goals as goal
+
+pub by_steps-requires : goal.by_steps-requires
+by_steps-requires c =
+    let S = c.before.before.before.before in
+    let a = S.args in
+    let l = S.requires.0 in
+    let inside = course_inside a.v a.src.now a.image a.axis a.index (length a.out.now) l in
+    let gathers = course_gathers a.v a.src.now a.image a.axis a.index (length a.out.now) l in
+    let room = line_room a.v a.src.now a.image a.axis a.index (length a.out.now) l in
+    rw (← S.requires.1) ((omega (arith, l.wide), refl), (inside, rw gathers room))
+
+pub returns-in-Steps : goal.returns-in-Steps
+returns-in-Steps c =
+    let S = c.before.before.before.before.before.before.before in
+    let a = S.args in
+    let gathers = course_gathers a.v a.src.now a.image a.axis a.index (length a.out.now) S.requires.0 in
+    rw (← S.requires.1, gathers) at c.by_steps.ensures

@@ -1,0 +1,29 @@
+-- `run_in` meets its contract: after k turns the first k lines are drawn.
+use Prim.Native.Nat.{◌-◌, ◌≤◌}
+use mathlib.Core.Path.{◌≡◌, refl}
+use native.Mathlib.Omega.{arith}
+use lib.ListN.{length}
+use borrow.Author.Rules.{rules}
+use Rattle.line_run.proofs.Drawn.{Drawn, drawn_none, drawn_next}
+use Rattle.line_run.proofs.run_in.Goals as goal
+
+pub loop-k-init : goal.loop-k-init
+loop-k-init c = (omega arith, drawn_none _ _ _ _, refl)
+
+pub loop-k-preserved : goal.loop-k-preserved
+loop-k-preserved c =
+    let lo = c.before.before.before.before.before.before.before.before in
+    let a = lo.args in (
+      omega arith,
+      drawn_next a.header a.file.now a.axis a.out.now lo.loop-k.k lo.loop-k.invariant.1 c.line_in-lined.ensures
+          c.bytes_of.ensures c.greater-most.ensures,
+      omega (arith, lo.loop-k.invariant.2),
+    )
+
+pub returns : goal.returns
+returns c =
+    let lo = c.before in
+    let a = lo.args in
+    let end : lo.loop-k.k ≡ a.count = omega arith in
+    let d = rw end at lo.loop-k.invariant.1 in
+    (d.1, d.0)

@@ -1,0 +1,58 @@
+-- `list` meets its contract: at each turn the spans so far and the walk that is left are the whole walk (proofs/Filled.antt).
+-- The measure is how many extensions may still come.
+use Prim.Native.Nat.{◌+◌, ◌<◌}
+use mathlib.Core.Path.{◌≡◌, sym, ◌∙◌}
+use mathlib.Core.List.{[]}
+use native.Mathlib.Omega.{arith}
+use borrow.Author.Rules.{rules}
+use Rattle.extension.specs.declared.Step.TheVariants.{Extension}
+use Rattle.extension.specs.Walk.{extension_limit, step_of, extensions_in}
+use Rattle.extension.specs.Listing.{listing_of}
+use Rattle.extension.proofs.Walks.{before}
+use Rattle.listing.proofs.Passed.{pass_none, pass_room, pass_end, pass_halt}
+use Rattle.listing.proofs.Filled.{Filled, fill_turn}
+use Rattle.listing.proofs.list.Goals as goal
+
+pub loop-x-init : goal.loop-x-init
+loop-x-init c =
+    let e = c.new-walker.ensures in
+    record { so_far = []; passed = pass_none _ _ e.2 e.3; kept = c.no_spans-spans.ensures }
+
+-- what the turn's step found, and the room that is left for it
+step_is : (c : goal.In-Extension invariant-loop decreases-loop) → let l = c.before.before.before.before in
+    step_of l.before.before.before.before.args.file.now l.loop.walker
+    ≡ Extension c.before.step2.given.0.0 c.before.step2.given.0.1.0
+step_is c = sym c.before.before.before.step.ensures ∙ c.before.step2.given.1
+
+room-is : (c : goal.In-Extension invariant-loop decreases-loop) → let w = c.before.before.before.before.loop.walker in
+    (w.count < extension_limit) × (c.before.step2.given.0.1.0.count ≡ w.count + 1)
+room-is c = pass_room _ _ _ _ c.before.before.before.before.loop.invariant.passed _ _ (step_is c)
+
+pub offset_bounds-spans-count : goal.offset_bounds-spans-count
+offset_bounds-spans-count c = omega (arith, room-is c)
+
+pub bounds-spans-count : goal.bounds-spans-count
+bounds-spans-count c = omega (arith, room-is c)
+
+pub loop-x-smaller : goal.loop-x-smaller
+loop-x-smaller c = omega (arith, room-is c)
+
+pub loop-x-preserved : goal.loop-x-preserved
+loop-x-preserved c = fill_turn _ _ _ _ c.loop-x.invariant _ _ (step_is c)
+
+pub returns-in-End : goal.returns-in-End
+unfolding listing_of
+returns-in-End c =
+    let l = c.before.before in
+    let f = l.loop-x.invariant in
+    let e = l.new-walker.ensures in
+    let all = pass_end _ _ _ _ f.passed (sym c.step-step.ensures ∙ c.in-End.is) in
+    rw (← e.0, ← e.1, all, ← f.passed.counted, ← f.kept)
+
+pub returns-in-Halt : goal.returns-in-Halt
+unfolding listing_of
+returns-in-Halt c =
+    let l = c.before.before.before in
+    let e = l.new-walker.ensures in
+    let all = pass_halt _ _ _ _ l.loop-x.invariant.passed _ (sym c.step-step.ensures ∙ c.in-Halt.is) in
+    rw (c.no_spans.ensures, ← e.0, ← e.1, all)

@@ -1,0 +1,36 @@
+-- `extension_answer` meets its contract.
+use Prim.Native.Nat.{◌≤◌}
+use mathlib.Core.Path.{sym, ap, subst, ◌∙◌}
+use lib.ListN.{get_or}
+use Rattle.refusal.specs.Table.{decided}
+use Rattle.extension.specs.Listing.{no_span}
+use Rattle.extension.specs.Walk.{extension_limit}
+use Rattle.answers.specs.Answers.{refused_extension, extension_shown, extension_answer}
+use Rattle.piece_reader.proofs.Answers.{count_few}
+use borrow.Author.Rules.{rules}
+use Rattle.piece_answers.proofs.extension_answer.Goals as goal
+
+pub shown_extension-requires : goal.shown_extension-requires
+shown_extension-requires c =
+    let a = c.before.before.before in
+    subst (λ r. r.header.count ≤ extension_limit) (sym a.answer-reading.ensures) (count_few a.args.pieces)
+
+pub returns-in-Accepted : goal.returns-in-Accepted
+unfolding extension_answer
+returns-in-Accepted c =
+    let a = c.before.before.before.before in
+    let r = a.answer-reading.result in
+    let n = a.args.number in
+    c.shown_extension.ensures
+    ∙ ap (λ v. decided v (extension_shown r.header.count (get_or r.header.spans n no_span) n) refused_extension) (sym c.in-Accepted.is)
+    ∙ ap (λ x. extension_answer x n) a.answer-reading.ensures
+
+pub returns-in-Refused : goal.returns-in-Refused
+unfolding extension_answer
+returns-in-Refused c =
+    let a = c.before.before in
+    let r = a.answer-reading.result in
+    let n = a.args.number in
+    c.refused_extension.ensures
+    ∙ ap (λ v. decided v (extension_shown r.header.count (get_or r.header.spans n no_span) n) refused_extension) (sym c.in-Refused.is)
+    ∙ ap (λ x. extension_answer x n) a.answer-reading.ensures

@@ -1,0 +1,34 @@
+-- `answer` meets its contract.
+use mathlib.Core.Path.{sym, ◌∙◌}
+use mathlib.Core.Bool.{false≢true}
+use native.Mathlib.Omega.{arith}
+use Rattle.layout.specs.File.{checked_in}
+use Rattle.layout.proofs.Checking.{checked_measured, checked_aligned}
+use Rattle.outline.proofs.Outlines.{checked_shown, checked_hidden}
+use Rattle.piece_reader.specs.Answer.{answer_of}
+use borrow.Author.Rules.{rules}
+use Rattle.piece_reader.proofs.answer.Goals as goal
+
+pub outline_in-outlined-requires : goal.outline_in-outlined-requires
+outline_in-outlined-requires c = (omega (arith, slice-aggregate-outline-in c), λ e. absurd (false≢true e))
+
+pub listed-requires : goal.listed-requires
+listed-requires c =
+    let k = c.before.before.before.before in
+    let s = k.args.pieces in
+    let fits = checked_shown (checked_in s.front s.taken) _ (sym k.outline_in-outlined.ensures ∙ k.in-Shown.is) in
+    (omega (arith, slice-aggregate-listed c), (checked_measured s.front s.taken _ fits, checked_aligned s.front s.taken _ fits))
+
+pub returns-in-Hidden : goal.returns-in-Hidden
+unfolding answer_of
+returns-in-Hidden c =
+    let k = c.before.before in
+    let s = k.args.pieces in
+    rw (checked_hidden (checked_in s.front s.taken) _ (sym k.outline_in-outlined.ensures ∙ k.in-Hidden.is)) c.refused.ensures
+
+pub returns-in-Shown : goal.returns-in-Shown
+unfolding answer_of
+returns-in-Shown c =
+    let k = c.before.before.before.before.before in
+    let s = k.args.pieces in
+    rw (checked_shown (checked_in s.front s.taken) _ (sym k.outline_in-outlined.ensures ∙ k.in-Shown.is)) c.listed.ensures

@@ -1,0 +1,22 @@
+-- `spans_in` meets its contract: so far the spans are those of the marks so far, and the next one starts where they end.
+use Prim.Native.Nat.{◌+◌, ◌-◌, ◌*◌, ◌<◌, ◌≤◌}
+use mathlib.Core.Path.{◌≡◌, refl, ap, ◌∙◌}
+use native.Mathlib.Omega.{arith}
+use borrow.Author.Rules.{rules}
+use lib.ListN.{length, get_or, set, take}
+use mir.Syntax.{w32}
+use mir.Val.{to_z, of_z}
+use Rattle.number.specs.Natural.{natural_of}
+use Rattle.extension.specs.Walk.{extension_limit, first_place, span}
+use Rattle.extension.specs.Listing.{spans_of}
+use Rattle.piece_walk.specs.Marks.{no_mark, place_by, spans_by}
+use Rattle.piece_reader.proofs.Spans.{place_turn, span_turn}
+use Rattle.piece_reader.proofs.spans_in.Given as goal
+
+abbrev pub invariant-loop-i : goal.invariant-loop-i
+invariant-loop-i l =
+    (l.i ≤ l.count) × (l.spans ≡ spans_of (spans_by first_place (take l.i l.marks))) × (l.start ≡ place_by first_place (take l.i l.marks))
+    × (l.start ≤ first_place + l.i * 2147483647)
+
+abbrev pub decreases-loop-i : goal.decreases-loop-i
+decreases-loop-i l = l.count - l.i

@@ -1,0 +1,24 @@
+-- `walk_on` meets its contract: what the start comes to is what the walk so far comes to (proofs/Passing.antt). The measure is how many
+-- extensions may still come.
+use Prim.Native.Nat.{ℕ, ◌+◌, ◌-◌, ◌<◌}
+use mathlib.Core.Path.{◌≡◌, refl, sym, ap, ◌∙◌}
+use mathlib.Core.List.{List}
+use native.Mathlib.Omega.{arith}
+use borrow.Author.Rules.{rules}
+use lib.ListN.{length, set}
+use Rattle.extension.specs.declared.Step.TheVariants.{Extension}
+use Rattle.extension.specs.Walk.{extension_limit}
+use Rattle.piece_walk.specs.declared.Mark.{Mark}
+use Rattle.piece_walk.specs.declared.Walk.{Walk}
+use Rattle.piece_walk.specs.Window.{window}
+use Rattle.piece_walk.specs.Walking.{step_by, walker_of, passing, walked_on}
+use Rattle.piece_walk.proofs.Passing.{step_room, passing_on, passing_end, passing_halt}
+use Rattle.piece_walk.proofs.walk_on.Given as goal
+
+abbrev pub invariant-loop-x : goal.invariant-loop-x
+invariant-loop-x l =
+    passing l.order l.end l.old l.taken l.piece (extension_limit - l.initial.count) (walk l.initial.at l.initial.count (window l.initial.at l.end l.taken l.old l.piece) l.initial.marks)
+    ≡ passing l.order l.end l.old l.taken l.piece (extension_limit - l.count) (walk l.at l.count (window l.at l.end l.taken l.old l.piece) l.marks)
+
+abbrev pub decreases-loop-x : goal.decreases-loop-x
+decreases-loop-x l = extension_limit - l.count

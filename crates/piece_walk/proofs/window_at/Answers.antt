@@ -1,0 +1,22 @@
+-- `window_at` meets its contract: so far the window's first bytes are stored.
+use Prim.Native.Nat.{◌-◌, ◌≤◌}
+use mathlib.Core.Path.{◌≡◌}
+use mathlib.Core.List.{◌++◌}
+use native.Mathlib.Omega.{arith}
+use borrow.Author.Rules.{rules}
+use lib.ListN.{length, drop, length-set}
+use Rattle.field.specs.Numbers.{tabulate}
+use Rattle.field.proofs.Tabulate.{tabulate_turn, tabulate_done}
+use Rattle.piece_walk.specs.Window.{window_byte, window}
+use Rattle.piece_walk.proofs.window_at.Goals as goal
+
+pub loop-i-preserved : goal.loop-i-preserved
+loop-i-preserved c =
+    let inv = c.loop-i.invariant in
+    (omega arith, simp length-set inv.1, inv.2, tabulate_turn _ 0 _ _ _ _ (omega arith) inv.3 c.window_byte.ensures)
+
+pub returns : goal.returns
+unfolding window
+returns c =
+    let l = c.loop-i in
+    tabulate_done _ _ _ l.i (omega arith) (omega arith) l.invariant.3

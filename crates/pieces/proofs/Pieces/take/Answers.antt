@@ -1,0 +1,44 @@
+-- `take` meets its contract.
+use Prim.Native.Nat.{◌+◌, ◌≤◌}
+use mathlib.Core.Path.{◌≡◌, sym, ap, ◌∙◌}
+use mathlib.Core.Bool.{false}
+use native.Mathlib.Omega.{arith}
+use borrow.Author.Tests.{ltb-false}
+use lib.ListN.{length}
+use Rattle.refusal.specs.declared.Verdict.TheVariants.{Accepted}
+use Rattle.pieces.specs.Pieces.{total_limit, passes_total, taken_with, taken_of}
+use borrow.Author.Rules.{rules}
+use Rattle.pieces.proofs.Pieces.take.Goals as goal
+
+pub returns-then-passes_total : goal.returns-then-passes_total
+unfolding taken_of
+returns-then-passes_total c = rw (sym c.passes_total.ensures ∙ c.if-passes_total.true)
+
+-- past its test the piece fits
+fits : (c : goal.Else-passes_total) → let a = c.args in passes_total a.self.taken (length a.piece.now) ≡ false
+fits c = sym c.passes_total.ensures ∙ c.if-passes_total.false
+
+room : (c : goal.Else-passes_total) → let a = c.args in a.self.taken + length a.piece.now ≤ total_limit
+room c = ltb-false total_limit _ (fits c)
+
+pub overflow_add-total : goal.overflow_add-total
+overflow_add-total c = omega (arith, room c)
+
+pub is_skipped-requires : goal.is_skipped-requires
+is_skipped-requires c = omega (arith, slice-aggregate-is-skipped c)
+
+pub returns-then-is_skipped : goal.returns-then-is_skipped
+unfolding taken_of taken_with
+returns-then-is_skipped c =
+    let k = c.before in
+    rw (fits k.before.before, sym k.is_skipped.ensures ∙ c.if-is_skipped.true)
+
+pub read_on-requires : goal.read_on-requires
+read_on-requires c = room c.before.before.before
+
+pub returns : goal.returns
+unfolding taken_of taken_with
+returns c =
+    let k = c.before.before in
+    rw (fits k.before.before, sym k.is_skipped.ensures ∙ c.if-is_skipped.false)
+    (ap (λ s. record { verdict = Accepted; pieces = s }) c.read_on.ensures)

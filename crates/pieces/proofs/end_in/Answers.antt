@@ -1,0 +1,17 @@
+-- `end_in` meets its contract.
+use mathlib.Core.Path.{sym, ◌∙◌}
+use borrow.Author.Tests.{not-true, not-false}
+use Rattle.pieces.specs.Pieces.{end_in}
+use borrow.Author.Rules.{rules}
+use Rattle.pieces.proofs.end_in.Goals as goal
+
+pub returns-then-not-has_extensions : goal.returns-then-not-has_extensions
+unfolding end_in
+returns-then-not-has_extensions c = rw (sym c.has_extensions.ensures ∙ not-true _ c.if-not-has_extensions.true)
+
+pub returns : goal.returns
+unfolding end_in
+returns c =
+    let k = c.before.before.before in
+    rw (sym k.has_extensions.ensures ∙ not-false _ k.if-not-has_extensions.false)
+    (rw (k.kind_of.ensures, c.decode.ensures, c.read_u32.ensures) at c.end_by.ensures)

@@ -1,0 +1,23 @@
+-- `read_on` meets its contract.
+use Prim.Native.Nat.{◌+◌}
+use mathlib.Core.Path.{ap, ◌∙◌}
+use lib.ListN.{length}
+use Rattle.layout.specs.File.{order_of}
+use Rattle.piece_walk.specs.Walking.{walked_on}
+use Rattle.pieces.specs.Pieces.{end_in, walk_with, read_on}
+use borrow.Author.Rules.{rules}
+use Rattle.pieces.proofs.read_on.Goals as goal
+
+pub returns : goal.returns
+unfolding read_on walk_with
+returns c =
+    let e = c.before.before in
+    let o = e.before.before in
+    let f = o.before.before in
+    let a = f.args in
+    let s = a.pieces in
+    let l = f.front_with-front.ensures in
+    let order = o.order_of-order.ensures ∙ ap order_of l in
+    let end = e.end_in-end.ensures ∙ (λ i. end_in (order i) (l i)) in
+    let w = c.walk_on-walk.ensures ∙ (λ i. walked_on (order i) (end i) s.walk s.taken a.piece.now) in
+    λ i. record { taken = s.taken + length a.piece.now; front = l i; walk = w i }

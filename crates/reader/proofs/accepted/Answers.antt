@@ -1,0 +1,19 @@
+-- `accepted` meets its contract: the record of the file's bytes, with its sizes and what was read of its offset.
+use mathlib.Core.Path.{ap, ◌∙◌}
+use Rattle.refusal.specs.declared.Verdict.TheVariants.{Accepted}
+use Rattle.header.specs.Fields.{header_of}
+use Rattle.rules.specs.Rules.{completed}
+use Rattle.layout.specs.File.{shape_in}
+use borrow.Author.Rules.{rules}
+use Rattle.reader.proofs.accepted.Goals as goal
+
+-- the record's fields are the file's
+pub complete-requires : goal.complete-requires
+unfolding header_of shape_in
+complete-requires c = rw c.parse.ensures c.requires
+
+pub returns : goal.returns
+returns c =
+    let a = c.args in
+    let header = c.complete.ensures ∙ ap completed c.parse.ensures in
+    λ i. record { verdict = Accepted; header = header i; image = a.layout.image }

@@ -1,0 +1,14 @@
+-- `read` meets its contract: rules 1 to 12, and then the extensions.
+use mathlib.Core.Path.{sym, ◌∙◌}
+use Rattle.reader.proofs.Answers.{reads_broken}
+use borrow.Author.Rules.{rules}
+use Rattle.reader.proofs.read.Goals as goal
+
+pub read_list-requires : goal.read_list-requires
+read_list-requires c = sym c.check-checked.ensures ∙ c.in-Fits.is
+
+pub returns-in-Breaks : goal.returns-in-Breaks
+returns-in-Breaks c =
+    let k = c.before.before in
+    let b = c.checked-1.given in
+    c.refused.ensures ∙ reads_broken k.args.file.now b.0.0 (sym k.check-checked.ensures ∙ b.1)

@@ -1,0 +1,43 @@
+-- `new_axes` meets its contract: the axes of a permutation are 1 to 3, and the last four stay.
+use native.Mathlib.Omega.{arith}
+use Rattle.reorient.specs.Reorient.{permuted, no_axis}
+use Rattle.reorient.proofs.Axes.{From1To3, bounds, last_four}
+use borrow.Author.Rules.{rules}
+use Rattle.reorient.proofs.new_axes.Goals as goal
+
+-- the axes are 1 to 3
+small : (s : goal.Start) → let t = s.args.t in From1To3 t.axis1 t.axis2 t.axis3
+small s = bounds s.args.t s.requires
+
+pub overflow_sub-i : goal.overflow_sub-i
+overflow_sub-i c = omega (arith, (small c.before).low1)
+
+pub overflow_sub-j : goal.overflow_sub-j
+overflow_sub-j c = omega (arith, (small c.before.before).low2)
+
+pub overflow_sub-k : goal.overflow_sub-k
+overflow_sub-k c = omega (arith, (small c.before.before.before).low3)
+
+pub offset_bounds-old-i : goal.offset_bounds-old-i
+offset_bounds-old-i c = omega (arith, (small c.before.before.before).high1)
+
+pub bounds-old-i : goal.bounds-old-i
+bounds-old-i c = omega (arith, (small c.before.before.before).high1)
+
+pub offset_bounds-old-j : goal.offset_bounds-old-j
+offset_bounds-old-j c = omega (arith, (small c.before.before.before.before).high2)
+
+pub bounds-old-j : goal.bounds-old-j
+bounds-old-j c = omega (arith, (small c.before.before.before.before).high2)
+
+pub offset_bounds-old-k : goal.offset_bounds-old-k
+offset_bounds-old-k c = omega (arith, (small c.before.before.before.before.before).high3)
+
+pub bounds-old-k : goal.bounds-old-k
+bounds-old-k c = omega (arith, (small c.before.before.before.before.before).high3)
+
+pub returns : goal.returns
+unfolding permuted
+returns c =
+    let a = c.args in
+    rw (last_four a.t1 no_axis (omega arith))

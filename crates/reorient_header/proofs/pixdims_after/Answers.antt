@@ -1,0 +1,39 @@
+-- `pixdims_after` meets its contract: the axes of a permutation are 1 to 3, and the entries are laid out by proofs/Made.antt.
+use Prim.Native.Nat.{◌≤◌}
+use mathlib.Core.Path.{ap}
+use mathlib.Core.List.{◌∷◌}
+use native.Mathlib.Omega.{arith}
+use lib.ListN.{get_or}
+use Rattle.reorient.proofs.Axes.{bounds}
+use Rattle.reorient_header.specs.After.{entries_after}
+use Rattle.reorient_header.proofs.Made.{entries}
+use borrow.Author.Rules.{rules}
+use Rattle.reorient_header.proofs.pixdims_after.Goals as goal
+
+-- the axes are 1 to 3
+small : (s : goal.Start) → let t = s.args.t in (t.axis1 ≤ 3) × (t.axis2 ≤ 3) × (t.axis3 ≤ 3)
+small s = let h = bounds s.args.t s.requires in (h.high1, h.high2, h.high3)
+
+pub offset_bounds-pixdim-first : goal.offset_bounds-pixdim-first
+offset_bounds-pixdim-first c = omega (arith, (small c).0)
+
+pub bounds-pixdim-first : goal.bounds-pixdim-first
+bounds-pixdim-first c = omega (arith, (small c).0)
+
+pub offset_bounds-pixdim-second : goal.offset_bounds-pixdim-second
+offset_bounds-pixdim-second c = omega (arith, (small c).1)
+
+pub bounds-pixdim-second : goal.bounds-pixdim-second
+bounds-pixdim-second c = omega (arith, (small c).1)
+
+pub offset_bounds-pixdim-third : goal.offset_bounds-pixdim-third
+offset_bounds-pixdim-third c = omega (arith, (small c).2)
+
+pub bounds-pixdim-third : goal.bounds-pixdim-third
+bounds-pixdim-third c = omega (arith, (small c).2)
+
+pub returns : goal.returns
+unfolding entries_after
+returns c =
+    let a = c.args in
+    ap (λ l. get_or a.t1 0 0 ∷ l) (entries a.t1 0 a.t c.requires (omega arith))

@@ -1,0 +1,29 @@
+-- `bytes_before` meets its contract: what is left of the index, from axis k on, decides whether it is inside; and the sum so far, with what
+-- is left, is right as far as rule 10 asks, each product being small.
+use mathlib.Core.Path.{◌≡◌, refl, sym, ap, ◌∙◌}
+use mathlib.Core.Bool.{true, false, ◌&&◌, false≢true}
+use Prim.Native.Nat.{ℕ, ◌+◌, ◌-◌, ◌*◌, ◌<◌, ◌≤◌}
+use native.Mathlib.Omega.{arith}
+use native.Mathlib.Nat.{add-zero, mul-le-mul}
+use lib.Dec.{ltb}
+use lib.ListN.{get_or, drop}
+use borrow.Author.Rules.{rules}
+use borrow.Author.Tests.{le-ltb, lt-ltb}
+use Rattle.grid.specs.Grid.{within}
+use Rattle.grid.specs.Axes.{image_limit, capped, seven_axes}
+use Rattle.grid.specs.Sizes.{bytes_before}
+use Rattle.grid.proofs.Bounds.{seven_length}
+use Rattle.grid.proofs.Limit.{capped-sum}
+use Rattle.grid.proofs.Steps.{before_next, before_end}
+use Rattle.grid.proofs.Voxels.{within_next, within_end}
+use Rattle.sizes.proofs.bytes_before.Given as goal
+
+abbrev pub invariant-loop-k : goal.invariant-loop-k
+invariant-loop-k l =
+    (l.k ≤ 7)
+    × (l.sum ≤ l.k * (32767 * (image_limit + 1)))
+    × (within (seven_axes l.dim l.n) l.index ≡ within (drop l.k (seven_axes l.dim l.n)) (drop l.k l.index))
+    × (capped (l.sum + bytes_before (drop l.k l.steps) (drop l.k l.index)) ≡ capped (bytes_before l.steps l.index))
+
+abbrev pub decreases-loop-k : goal.decreases-loop-k
+decreases-loop-k l = 7 - l.k

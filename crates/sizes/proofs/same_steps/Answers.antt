@@ -1,0 +1,31 @@
+-- `same_steps` meets its contract: what is left to compare, from k on, decides the whole.
+use mathlib.Core.Path.{◌≡◌, refl, sym, ◌∙◌}
+use Prim.Native.Nat.{◌-◌, ◌≤◌}
+use native.Mathlib.Omega.{arith}
+use lib.ListN.{drop}
+use borrow.Author.Rules.{rules}
+use borrow.Author.Tests.{ne_eqb, eq-eqb}
+use Rattle.number.specs.Same.{same_numbers}
+use Rattle.number.proofs.Same.{same_next, same_end}
+use Rattle.sizes.proofs.same_steps.Goals as goal
+
+pub loop-k-init : goal.loop-k-init
+loop-k-init c = (omega arith, refl)
+
+pub returns-then-a-k : goal.returns-then-a-k
+returns-then-a-k c =
+    let lo = c.before.before in
+    let a = lo.args in
+    sym (lo.loop-k.invariant.1 ∙ same_next a.t1 a.t2 lo.loop-k.k (omega arith) (omega arith) ∙ rw (ne_eqb _ _ c.if-a-k.true))
+
+pub loop-k-preserved : goal.loop-k-preserved
+loop-k-preserved c =
+    let lo = c.before.before in
+    let a = lo.args in
+    (omega arith, lo.loop-k.invariant.1 ∙ same_next a.t1 a.t2 lo.loop-k.k (omega arith) (omega arith) ∙ rw (eq-eqb _ _ c.if-a-k.false))
+
+pub returns : goal.returns
+returns c =
+    let lo = c.before in
+    let a = lo.args in
+    sym (lo.loop-k.invariant.1 ∙ same_end a.t1 a.t2 lo.loop-k.k (omega arith) (omega arith))

@@ -1,0 +1,20 @@
+-- `sizes_in` meets its contract: dim[0] and the bytes of a voxel are those that the fields state.
+use mathlib.Core.Path.{◌≡◌, ap}
+use Prim.Native.Nat.{ℕ, ◌/◌}
+use borrow.Author.Rules.{rules}
+use mir.Syntax.{w16}
+use mir.ValLaws.{to_z-of_z}
+use Rattle.number.specs.Natural.{natural_of}
+use Rattle.sizes.proofs.sizes_in.Goals as goal
+
+-- bitpix as it was passed on
+bytes-are : (c : goal.After-natural) → c.natural.result / 8 ≡ natural_of c.args.bitpix / 8
+bytes-are c =
+    let S = c.before.before.before.before in
+    ap (λ (n : ℕ). n / 8) (rw (to_z-of_z w16 S.args.bitpix S.ranges.bitpix) at c.natural.ensures.0)
+
+pub sizes_of-requires : goal.sizes_of-requires
+sizes_of-requires c = rw (c.axis_length-n.ensures.0, bytes-are c) c.requires
+
+pub returns : goal.returns
+returns c = rw (c.axis_length-n.ensures.0, bytes-are c.before) at c.sizes_of.ensures

@@ -1,0 +1,18 @@
+-- `sizes_of` meets its contract: after k turns the array has the steps of axes 1 to k, and `step` is the next one.
+use mathlib.Core.Path.{◌≡◌, refl, sym, ap, ◌∙◌}
+use Prim.Native.Nat.{ℕ, ◌-◌, ◌≤◌}
+use mathlib.Core.List.{◌++◌, append-nil}
+use native.Mathlib.Omega.{arith}
+use native.Mathlib.Numerals.{add-one}
+use lib.ListN.{replicate}
+use borrow.Author.Rules.{rules}
+use Rattle.grid.specs.Sizes.{step_after, steps_to, sizes_by}
+use Rattle.grid.proofs.Steps.{first_step_lem, next_step, step_small, last_step, steps_next}
+use Rattle.sizes.proofs.sizes_of.Given as goal
+
+abbrev pub invariant-loop-k : goal.invariant-loop-k
+invariant-loop-k l =
+    (l.k ≤ 7) × (l.step ≡ step_after l.dim l.n l.bytes l.k) × (l.steps ≡ steps_to l.dim l.n l.bytes l.k ++ replicate (7 - l.k) 0)
+
+abbrev pub decreases-loop-k : goal.decreases-loop-k
+decreases-loop-k l = 7 - l.k

@@ -1,2 +1,0 @@
--- The theorems on the card.
-mod Calls

@@ -1,0 +1,25 @@
+-- `acquisition_in` meets its contract: each field is read where `acquisition_in` has it.
+use mathlib.Core.Path.{◌∙◌}
+use lib.ListN.{get_or}
+use mir.Syntax.{w16}
+use mir.ValLaws.{to_z-of_z}
+use Rattle.slice_position.specs.Files.{acquisition_in}
+use borrow.Author.Rules.{rules}
+use Rattle.slice_position.proofs.acquisition_in.Goals as goal
+
+pub returns : goal.returns
+unfolding acquisition_in
+returns c =
+    let e = c.before.before in
+    let b = e.before in
+    let d = b.before.before in
+    let file = d.args.file.now in
+    λ i.
+    record {
+      dim = d.dims.ensures i;
+      dim_info = get_or file 39 0;
+      slice_start = (to_z-of_z w16 b.read_i16.result (record { sfits = b.read_i16.type-inv }) ∙ b.read_i16.ensures) i;
+      slice_end = (to_z-of_z w16 e.read_i16-2.result (record { sfits = e.read_i16-2.type-inv }) ∙ e.read_i16-2.ensures) i;
+      slice_code = get_or file 122 0;
+      slice_duration = c.read_u32.ensures i;
+    }

@@ -1,0 +1,21 @@
+-- `sform_in` meets its contract: each field is read where `sform_in` has it.
+use mathlib.Core.Path.{◌∙◌}
+use mir.Syntax.{w16}
+use mir.ValLaws.{to_z-of_z}
+use Rattle.slice_position.specs.Files.{sform_in}
+use borrow.Author.Rules.{rules}
+use Rattle.slice_position.proofs.sform_in.Goals as goal
+
+pub returns : goal.returns
+unfolding sform_in
+returns c =
+    let y = c.before in
+    let b = y.before.before in
+    λ i.
+    record {
+      dim = b.dims.ensures i;
+      sform_code = (to_z-of_z w16 b.read_i16.result (record { sfits = b.read_i16.type-inv }) ∙ b.read_i16.ensures) i;
+      srow_x = y.u32x4.ensures i;
+      srow_y = y.u32x4-2.ensures i;
+      srow_z = c.u32x4-3.ensures i;
+    }

@@ -1,0 +1,33 @@
+-- `slice_of_rank` meets its contract: a file's refusal, and else the answer by the fields that its outline finds.
+use mathlib.Core.Path.{sym, ◌∙◌}
+use Rattle.outline.proofs.Outlines.{hidden_answer, shown_answer, shown_long}
+use Rattle.slice_rank.specs.declared.Ranked.TheVariants.{Refused}
+use Rattle.slice_rank.specs.Ranked.{ranked_by}
+use Rattle.slice_position.specs.Files.{ranked_of}
+use Rattle.slice_position.proofs.Shown.{shown_acquisition}
+use borrow.Author.Rules.{rules}
+use Rattle.slice_position.proofs.slice_of_rank.Goals as goal
+
+pub acquisition_in-requires : goal.acquisition_in-requires
+acquisition_in-requires c =
+    let k = c.before.before in
+    let t = c.outlined-in-Shown-1.given in
+    shown_long k.args.file.now 0 t.0.0 (sym k.outline_of-outlined.ensures ∙ t.1)
+
+pub returns-in-Hidden : goal.returns-in-Hidden
+unfolding ranked_of
+returns-in-Hidden c =
+    let k = c.before in
+    let t = c.outlined-1.given in
+    hidden_answer k.args.file.now 0 _ Refused t.0.0 (sym k.outline_of-outlined.ensures ∙ t.1)
+
+pub returns-in-Shown : goal.returns-in-Shown
+unfolding ranked_of
+returns-in-Shown c =
+    let k = c.before.before.before.before in
+    let a = k.args in
+    let t = c.outlined-in-Shown-1.given in
+    let shown = sym k.outline_of-outlined.ensures ∙ t.1 in
+    c.ranked_by.ensures
+    ∙ (λ n. ranked_by ((c.acquisition_in.ensures ∙ shown_acquisition a.file.now t.0.0 shown) n) a.rank)
+    ∙ shown_answer a.file.now 0 _ Refused t.0.0 shown

@@ -1,0 +1,24 @@
+-- `put_bytes` meets its contract: after i turns the first i bytes are stored.
+use Prim.Native.Nat.{◌-◌, ◌≤◌}
+use mathlib.Core.Path.{◌≡◌, ◌∙◌}
+use native.Mathlib.Omega.{arith}
+use borrow.Author.Rules.{rules}
+use lib.ListN.{length, get_or}
+use lib.Seq.{sets}
+use Rattle.field.specs.Numbers.{tabulate, padded}
+use Rattle.field.proofs.Stores.{byte_turn}
+use Rattle.store.proofs.put_bytes.Goals as goal
+
+pub loop-i-preserved : goal.loop-i-preserved
+loop-i-preserved c =
+    let p = c.before.before in
+    let q = p.before in
+    let inv = c.loop-i.invariant in
+    (omega arith, p.put_byte.auto.0 ∙ inv.1, rw (p.put_byte.ensures, q.byte_at.ensures) (byte_turn _ _ _ _ _ inv.2))
+
+pub returns : goal.returns
+unfolding padded
+returns c =
+    let inv = c.loop-i.invariant in
+    let same : c.loop-i.i ≡ c.args.n = omega arith in
+    rw same at inv.2

@@ -1,0 +1,10 @@
+-- `put_i16` meets its contract: it stores the number's bits.
+use mir.Syntax.{w16}
+use mir.ValLaws.{to_z-of_z}
+use borrow.Author.Rules.{rules}
+use Rattle.store.proofs.put_i16.Goals as goal
+
+pub returns : goal.returns
+returns c =
+    let s = c.before.before.before.before.before.before in
+    rw (c.bits16.ensures, to_z-of_z w16 s.args.z s.ranges.z) at c.put_u16.ensures

@@ -1,0 +1,10 @@
+-- `put_i32` meets its contract: it stores the number's bits.
+use mir.Syntax.{w32}
+use mir.ValLaws.{to_z-of_z}
+use borrow.Author.Rules.{rules}
+use Rattle.store.proofs.put_i32.Goals as goal
+
+pub returns : goal.returns
+returns c =
+    let s = c.before.before.before.before.before.before in
+    rw (c.bits32.ensures, to_z-of_z w32 s.args.z s.ranges.z) at c.put_u32.ensures

@@ -1,0 +1,19 @@
+-- `put_u32s` meets its contract: after i turns the first i numbers are stored.
+use Prim.Native.Nat.{◌-◌, ◌≤◌}
+use mathlib.Core.Path.{◌≡◌, refl, ◌∙◌}
+use native.Mathlib.Omega.{arith}
+use borrow.Author.Rules.{rules}
+use lib.ListN.{length, get_or}
+use lib.Seq.{sets}
+use Rattle.field.specs.Numbers.{tabulate, joined, bytes_of, padded, u32s_bytes}
+use Rattle.field.proofs.Stores.{run_turn}
+use Rattle.store.proofs.put_u32s.Given as goal
+
+abbrev pub invariant-loop-i : goal.invariant-loop-i
+invariant-loop-i l =
+    (l.i ≤ l.n)
+    × (length l.buf ≡ length l.initial.buf)
+    × (l.buf ≡ sets l.initial.buf l.at (joined (tabulate (λ k. bytes_of l.order 4 (get_or l.src k 0)) l.i)))
+
+abbrev pub decreases-loop-i : goal.decreases-loop-i
+decreases-loop-i l = l.n - l.i

@@ -1,0 +1,16 @@
+-- `vestumbral_read` meets its contract: a refused file's outline is hidden, and an accepted one's shows the answer.
+use mathlib.Core.Path.{sym, ◌∙◌}
+use Rattle.answers.proofs.Shown.{hidden_file}
+use borrow.Author.Rules.{rules}
+use Rattle.vestumbral.proofs.vestumbral_read.Goals as goal
+
+pub shown_file-requires : goal.shown_file-requires
+shown_file-requires c = sym c.outline_of-outlined.ensures ∙ c.in-Shown.is
+
+pub returns-in-Hidden : goal.returns-in-Hidden
+returns-in-Hidden c =
+    let hidden = c.outlined-1.given in
+    let outline = c.before.before in
+    let a = outline.args in
+    c.refused_file.ensures
+    ∙ hidden_file a.file.now 0 hidden.0.0 (sym outline.outline_of-outlined.ensures ∙ hidden.1)

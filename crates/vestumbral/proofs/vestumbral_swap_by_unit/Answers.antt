@@ -1,0 +1,10 @@
+-- `vestumbral_swap_by_unit` meets its contract, which is that of `swap_by_unit`.
+use mathlib.Core.Path.{ap, ◌∙◌}
+use Rattle.answers.specs.Answers.{swap_reply}
+use borrow.Author.Rules.{rules}
+use Rattle.vestumbral.proofs.vestumbral_swap_by_unit.Goals as goal
+
+pub returns : goal.returns
+returns c =
+    let e = c.before.before.before.before.before in
+    (c.swap_reply.ensures ∙ ap swap_reply e.swap_by_unit-verdict.ensures.0, e.swap_by_unit-verdict.ensures.1, e.swap_by_unit-verdict.ensures.2)

@@ -1,0 +1,8 @@
+-- `vestumbral_voxel` meets its contract, which is that of `locate`.
+use mathlib.Core.Path.{ap, ◌∙◌}
+use Rattle.answers.specs.Answers.{voxel_reply}
+use borrow.Author.Rules.{rules}
+use Rattle.vestumbral.proofs.vestumbral_voxel.Goals as goal
+
+pub returns : goal.returns
+returns c = c.voxel_reply.ensures ∙ ap voxel_reply c.locate.ensures

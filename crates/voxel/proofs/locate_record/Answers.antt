@@ -1,0 +1,31 @@
+-- `locate_record` meets its contract: what the offset's decoder answers, by rules 8 and 9, and else the rest.
+use mathlib.Core.Path.{ap, sym, ◌∙◌}
+use mathlib.Core.Logic.{⊎_elim}
+use Prim.Native.Nat.{ℕ}
+use native.Mathlib.Omega.{arith}
+use Rattle.voxel.specs.declared.Located.TheVariants.{Unlocated}
+use Rattle.voxel.specs.Steps.{volume, stepped_by}
+use Rattle.voxel.proofs.Stepping.{in_refused, in_whole}
+use borrow.Author.Rules.{rules}
+use Rattle.voxel.proofs.locate_record.Goals as goal
+
+pub locate_at-requires : goal.locate_at-requires
+locate_at-requires c = (omega (arith, slice-aggregate-locate-at c.before.before), omega (arith, slice-aggregate-locate-at-2 c.before), omega (arith, slice-aggregate-locate-at-3 c))
+
+pub returns-in-Refused : goal.returns-in-Refused
+returns-in-Refused c =
+    let o = c.before.before.before in
+    let d = o.before in
+    let a = d.args in
+    ap Unlocated c.misplaced.ensures ∙ in_refused a.header a.len a.t3 o.in-Refused.r (sym d.decode-offset.ensures ∙ o.in-Refused.is)
+
+pub returns-in_default : goal.returns-in_default
+returns-in_default c =
+    let w = c.before.before.before.before in
+    let d = w.before.before in
+    let a = d.args in
+    let h = a.header in
+    c.locate_at.ensures
+    ∙ ap (λ (n : ℕ). stepped_by (volume h.dim n h.sizes.total h.sizes.steps h.kind) a.len a.t3) w.whole_in-at.ensures
+    ∙ in_whole h a.len a.t3 d.decode-offset.result (sym d.decode-offset.ensures)
+    (λ r e. ⊎_elim (λ k. omega arith) (λ k. omega arith) (rw e at w.in_default.is))

@@ -1,0 +1,18 @@
+-- `turn_wide` meets its contract: thirty-two bytes after thirty-two.
+use Prim.Native.Nat.{◌/◌}
+use native.Mathlib.Omega.{arith}
+use Rattle.word_blocks.proofs.Stored.{turned_join}
+use Rattle.word_blocks.proofs.Blocks.{wide_thirty_two, wide_twice_again}
+use borrow.Author.Rules.{rules}
+use Rattle.word_blocks.proofs.turn_wide.Goals as goal
+
+pub returns : goal.returns
+returns c =
+    let second = c.before.before in
+    let first = second.before.before.before.before in
+    let start = first.before.before.before in
+    let a = start.args in
+    let w = start.requires.0 in
+    rw (← wide_twice_again w)
+    (turned_join a.unit a.at 32 (32 / a.unit) (32 / a.unit) a.buf.now first.turn_both.new.0 second.turn_both-2.new.0 (wide_thirty_two w)
+    (omega (arith, start.requires.1)) first.turn_both.ensures second.turn_both-2.ensures)

@@ -1,0 +1,42 @@
+-- `turn_wide` meets its contract: a loop over blocks of sixty-four bytes (proofs/Blocks.antt).
+use Prim.Native.Nat.{◌+◌, ◌*◌, ◌/◌}
+use native.Mathlib.Nat.{div-mul-le_self}
+use native.Mathlib.Omega.{arith}
+use mathlib.Core.Path.{◌∙◌}
+use borrow.Author.Rules.{rules}
+use Rattle.word_turns.proofs.Blocks.{Left, left_all, left_next, left_rest, wide_positive, wide_fills}
+use Rattle.word_turns.proofs.turn_wide.Goals as goal
+
+pub loop-left-init : goal.loop-left-init
+loop-left-init c =
+    let start = c.before in
+    let a = start.args in
+    left_all a.unit a.start a.count a.buf.now (wide_positive start.requires.0) start.requires.1
+
+pub loop-left-preserved : goal.loop-left-preserved
+loop-left-preserved c =
+    let block = c.before.before in
+    let test = block.before.before in
+    let v = test.loop-left in
+    let start = test.before.before.before in
+    let a = start.args in
+    left_next a.unit a.start a.count a.buf.now (wide_positive start.requires.0) (64 / a.unit) 64 (wide_fills start.requires.0) (a.start + a.count * a.unit)
+    v.left v.buf v.invariant test.loop-left-test.true
+    block.turn_wide.new.0 block.turn_wide.auto.0 block.turn_wide.ensures
+
+pub nonzero_div-left : goal.nonzero_div-left
+nonzero_div-left c = wide_positive c.requires.0
+
+pub turn_units-requires : goal.turn_units-requires
+turn_units-requires c =
+    let v = c.loop-left in
+    omega (arith, v.invariant.within, v.invariant.room, div-mul-le_self v.left c.args.unit)
+
+pub returns : goal.returns
+returns c =
+    let rest = c.before.before in
+    let v = rest.loop-left in
+    let start = rest.before.before.before.before.before in
+    let a = start.args in
+    left_rest a.unit a.start a.count a.buf.now (wide_positive start.requires.0) (a.start + a.count * a.unit)
+    v.left v.buf rest.turn_units.new.0 v.invariant rest.turn_units.ensures

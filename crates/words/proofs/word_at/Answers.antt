@@ -1,0 +1,13 @@
+-- `word_at` meets its contract: the part that begins there has the word first.
+use Prim.Native.Nat.{◌+◌, ◌-◌}
+use mathlib.Core.Path.{◌∙◌}
+use native.Mathlib.Omega.{arith}
+use Rattle.words.proofs.Stored.{part_word}
+use borrow.Author.Rules.{rules}
+use Rattle.words.proofs.word_at.Goals as goal
+
+pub returns : goal.returns
+returns c =
+    let start = c.before.before.before in
+    let a = start.args in
+    c.first_word.ensures ∙ part_word a.s.now a.at (a.at + 8 - a.at) start.requires (omega arith)
