@@ -37,7 +37,7 @@ begin c = c.before.before.before.before.before.before
 
 bitpix-is : (c : goal.After-read_i16-bitpix)
     → to_z w16 (of_z w16 c.read_i16-bitpix.result) ≡ i16_at (begin c).args.outline.layout.order (begin c).args.file.now 72
-bitpix-is c = to_z-of_z w16 c.read_i16-bitpix.result (record { sfits = c.read_i16-bitpix.type-inv }) ∙ c.read_i16-bitpix.ensures
+bitpix-is c = to_z-of_z w16 c.read_i16-bitpix.result (record { sfits = c.read_i16-bitpix.type_inv }) ∙ c.read_i16-bitpix.ensures
 
 pub sizes_in-sizes-requires : goal.sizes_in-sizes-requires
 unfolding shape_in
@@ -71,7 +71,7 @@ returns c =
       big_endian = d.big_endian.ensures i;
       pair = d.is_pair.ensures i;
       dim = dims i;
-      datatype = (to_z-of_z w16 datatype.result (record { sfits = datatype.type-inv }) ∙ datatype.ensures) i;
+      datatype = (to_z-of_z w16 datatype.result (record { sfits = datatype.type_inv }) ∙ datatype.ensures) i;
       bitpix = bitpix-is r i;
       extensions = o.count;
       step = (sizes i).steps;

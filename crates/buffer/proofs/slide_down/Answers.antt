@@ -16,7 +16,7 @@ pub loop-left-preserved : goal.loop-left-preserved
 loop-left-preserved c =
     let v = c.loop-left in
     let moved = c.slide_block in
-    let kept = moved.auto.0 in (
+    let kept = moved.auto.buf in (
       omega arith,
       omega (arith, kept),
       kept ∙ v.invariant.2,

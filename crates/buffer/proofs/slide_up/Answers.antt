@@ -17,7 +17,7 @@ loop-left-preserved c =
     let v = c.loop-left in
     let a = c.args in
     let moved = c.slide_block in
-    let kept = moved.auto.0 in (
+    let kept = moved.auto.buf in (
       omega arith,
       omega (arith, kept),
       kept ∙ v.invariant.2,

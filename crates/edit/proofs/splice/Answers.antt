@@ -85,7 +85,7 @@ put_new-requires c =
     let size = new_size (change-at g) (length (payload-at g)) in
     let n = length_new (plan-at g).order (change-at g) (to_z w32 (of_z w32 (code_at g))) (payload-at g) in
     let o = length_new (order_of (file-at g)) (change-at g) (code_at g) (payload-at g) in
-    let k = m.make_room.auto.0 in
+    let k = m.make_room.auto.buf in
     let x = v.new_is in
     let r = s.room in
     let q = s.out in
@@ -98,7 +98,7 @@ put_extender-requires c =
     let p = c.before.before.before in
     let m = room_at p in
     let s = (sizes-at (first-at m)).inside in
-    omega (arith, p.put_new.auto.0, m.make_room.kept.0)
+    omega (arith, p.put_new.auto.buf, m.make_room.kept.0)
 
 pub put_offset-requires : goal.put_offset-requires
 put_offset-requires c =
@@ -107,7 +107,7 @@ put_offset-requires c =
     let m = room_at p in
     let s = sizes-at (first-at m) in
     let i = s.inside in
-    (omega (arith, e.put_extender.auto.0, p.put_new.kept.0, m.make_room.kept.0), s.end-limit)
+    (omega (arith, e.put_extender.auto.buf, p.put_new.kept.0, m.make_room.kept.0), s.end-limit)
 
 pub overflow_sub-result : goal.overflow_sub-result
 overflow_sub-result c =

@@ -26,5 +26,5 @@ returns c =
     let e : i.put_i32.new.0 ≡ sets u.put_u32.new.0 (a.at + 4) (bytes_of a.order 4 (of_z w32 a.code)) =
     rw q at i.put_i32.ensures in
     stored_put a.buf.now a.at a.order a.code a.payload.now u.put_u32.new.0 i.put_i32.new.0 k.copy_in.new.0
-    c.clear.new.0 s.requires.0 u.put_u32.auto.0 (rw size at u.put_u32.ensures) e k.copy_in.ensures
+    c.clear.new.0 s.requires.0 u.put_u32.auto.buf (rw size at u.put_u32.ensures) e k.copy_in.ensures
     (rw size at c.clear.ensures)

@@ -16,7 +16,7 @@ pub loop-i-preserved : goal.loop-i-preserved
 loop-i-preserved c =
     let inv = c.loop-i.invariant in
     let r = c.read_i16 in
-    let value = to_z-of_z w16 r.result (record { sfits = r.type-inv }) ∙ r.ensures in
+    let value = to_z-of_z w16 r.result (record { sfits = r.type_inv }) ∙ r.ensures in
     (omega arith, simp length-set inv.1, tabulate_turn _ (pos 0) _ _ _ _ (omega arith) inv.2 value)
 
 pub returns : goal.returns

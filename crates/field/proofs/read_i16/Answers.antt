@@ -9,4 +9,4 @@ use Rattle.field.proofs.read_i16.Goals as goal
 pub returns : goal.returns
 returns c =
     let s = c.signed16 in
-    to_z-of_z w16 s.result (record { sfits = s.type-inv }) ∙ s.ensures ∙ ap (to_z w16) c.read_u16.ensures
+    to_z-of_z w16 s.result (record { sfits = s.type_inv }) ∙ s.ensures ∙ ap (to_z w16) c.read_u16.ensures

@@ -9,4 +9,4 @@ use Rattle.field.proofs.read_i32.Goals as goal
 pub returns : goal.returns
 returns c =
     let s = c.signed32 in
-    to_z-of_z w32 s.result (record { sfits = s.type-inv }) ∙ s.ensures ∙ ap (to_z w32) c.read_u32.ensures
+    to_z-of_z w32 s.result (record { sfits = s.type_inv }) ∙ s.ensures ∙ ap (to_z w32) c.read_u32.ensures

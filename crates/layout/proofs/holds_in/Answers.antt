@@ -9,4 +9,4 @@ pub returns : goal.returns
 unfolding holds_in
 returns c =
     let n = c.read_i16-n in
-    rw (to_z-of_z w16 n.result (record { sfits = n.type-inv }), n.ensures)
+    rw (to_z-of_z w16 n.result (record { sfits = n.type_inv }), n.ensures)

@@ -14,7 +14,7 @@ returns c =
     λ i. record {
       kind = d.args.kind;
       dim = d.dims.ensures i;
-      datatype = (to_z-of_z w16 d.read_i16.result (record { sfits = d.read_i16.type-inv }) ∙ d.read_i16.ensures) i;
-      bitpix = (to_z-of_z w16 b.read_i16-2.result (record { sfits = b.read_i16-2.type-inv }) ∙ b.read_i16-2.ensures) i;
+      datatype = (to_z-of_z w16 d.read_i16.result (record { sfits = d.read_i16.type_inv }) ∙ d.read_i16.ensures) i;
+      bitpix = (to_z-of_z w16 b.read_i16-2.result (record { sfits = b.read_i16-2.type_inv }) ∙ b.read_i16-2.ensures) i;
       vox_offset = c.read_u32.ensures i;
     }

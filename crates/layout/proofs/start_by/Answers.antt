@@ -31,7 +31,7 @@ ordered S = rw S.requires.1 S.requires.2
 by_size : (c : goal.After-read_i32) → sized-as c.before ≡ eqb (of_z w32 c.read_i32.result) 348
 by_size c =
     let n = c.read_i32 in
-    rw (c.requires.1, ← n.ensures) (number_bits w32 n.result 348 (record { sfits = n.type-inv }) (omega arith))
+    rw (c.requires.1, ← n.ensures) (number_bits w32 n.result 348 (record { sfits = n.type_inv }) (omega arith))
 
 sized : (c : goal.Else-read_i32-ne348) → sized-as c.before.before ≡ true
 sized c = by_size c.before ∙ eq-eqb (of_z w32 c.read_i32.result) 348 c.if-read_i32-ne348.false

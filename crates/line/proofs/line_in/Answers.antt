@@ -21,5 +21,5 @@ returns-in_default c =
     let d = w.before.before in
     let a = d.args in
     record_copies a.header a.file.now a.image.now a.axis a.index a.out.now d.decode-offset.result (sym d.decode-offset.ensures)
-    (λ r e. ⊎_elim (λ k. omega arith) (λ k. omega arith) (rw e at w.in_default.is)) _ _
+    (λ r e. ⊎_elim (λ k. omega arith) (λ k. omega arith) (rw e at w.in_default.in_default-own.keys2)) _ _
     (rw w.whole_in.ensures at c.line_at.ensures)

@@ -36,7 +36,7 @@ dims-are c = c.dims-dim.ensures
 
 bitpix-is : (c : goal.After-read_i16-bitpix) → to_z w16 (of_z w16 c.read_i16-bitpix.result) ≡ (read c).bitpix
 unfolding shape_in
-bitpix-is c = to_z-of_z w16 c.read_i16-bitpix.result (record { sfits = c.read_i16-bitpix.type-inv }) ∙ c.read_i16-bitpix.ensures
+bitpix-is c = to_z-of_z w16 c.read_i16-bitpix.result (record { sfits = c.read_i16-bitpix.type_inv }) ∙ c.read_i16-bitpix.ensures
 
 pub sizes_in-requires : goal.sizes_in-requires
 sizes_in-requires c =

@@ -35,8 +35,8 @@ returns c =
     let w = a.walker in
     let size = c.read_i32-size in
     let code = c.read_i32-code in
-    let s : to_z w32 (of_z w32 size.result) ≡ size.result = to_z-of_z w32 size.result (record { sfits = size.type-inv }) in
-    let d : to_z w32 (of_z w32 code.result) ≡ code.result = to_z-of_z w32 code.result (record { sfits = code.type-inv }) in
+    let s : to_z w32 (of_z w32 size.result) ≡ size.result = to_z-of_z w32 size.result (record { sfits = size.type_inv }) in
+    let d : to_z w32 (of_z w32 code.result) ≡ code.result = to_z-of_z w32 code.result (record { sfits = code.type_inv }) in
     let from : a.taken ≤ w.at = omega (arith, c.if-at-taken.false) in
     let room : w.at + 8 ≤ w.end = omega (arith, left_is m, c.if-n-lt16.false) in
     let k : w.at - a.taken ≡ w.at - a.taken + 0 = omega arith in

@@ -41,7 +41,7 @@ judge_image-requires c =
     let d = c.before in
     let b = d.before.before in
     let S = b.before.before.before.before in
-    (S.requires.0, S.requires.1, agree b d.if-shape-format.false, sym d.decode-offset.ensures, λ r e. ⊎_elim (λ k. omega arith) (λ k. omega arith) (rw e at c.in_default.is))
+    (S.requires.0, S.requires.1, agree b d.if-shape-format.false, sym d.decode-offset.ensures, λ r e. ⊎_elim (λ k. omega arith) (λ k. omega arith) (rw e at c.in_default.in_default-own.keys2))
 
 pub returns-in-Refused : goal.returns-in-Refused
 returns-in-Refused c =

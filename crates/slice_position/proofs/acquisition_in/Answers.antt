@@ -18,8 +18,8 @@ returns c =
     record {
       dim = d.dims.ensures i;
       dim_info = get_or file 39 0;
-      slice_start = (to_z-of_z w16 b.read_i16.result (record { sfits = b.read_i16.type-inv }) ∙ b.read_i16.ensures) i;
-      slice_end = (to_z-of_z w16 e.read_i16-2.result (record { sfits = e.read_i16-2.type-inv }) ∙ e.read_i16-2.ensures) i;
+      slice_start = (to_z-of_z w16 b.read_i16.result (record { sfits = b.read_i16.type_inv }) ∙ b.read_i16.ensures) i;
+      slice_end = (to_z-of_z w16 e.read_i16-2.result (record { sfits = e.read_i16-2.type_inv }) ∙ e.read_i16-2.ensures) i;
       slice_code = get_or file 122 0;
       slice_duration = c.read_u32.ensures i;
     }

@@ -14,7 +14,7 @@ returns c =
     λ i.
     record {
       dim = b.dims.ensures i;
-      sform_code = (to_z-of_z w16 b.read_i16.result (record { sfits = b.read_i16.type-inv }) ∙ b.read_i16.ensures) i;
+      sform_code = (to_z-of_z w16 b.read_i16.result (record { sfits = b.read_i16.type_inv }) ∙ b.read_i16.ensures) i;
       srow_x = y.u32x4.ensures i;
       srow_y = y.u32x4-2.ensures i;
       srow_z = c.u32x4-3.ensures i;

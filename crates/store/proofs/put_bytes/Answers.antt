@@ -14,7 +14,7 @@ loop-i-preserved c =
     let p = c.before.before in
     let q = p.before in
     let inv = c.loop-i.invariant in
-    (omega arith, p.put_byte.auto.0 ∙ inv.1, rw (p.put_byte.ensures, q.byte_at.ensures) (byte_turn _ _ _ _ _ inv.2))
+    (omega arith, p.put_byte.auto.buf ∙ inv.1, rw (p.put_byte.ensures, q.byte_at.ensures) (byte_turn _ _ _ _ _ inv.2))
 
 pub returns : goal.returns
 unfolding padded

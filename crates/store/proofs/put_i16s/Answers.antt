@@ -20,9 +20,9 @@ loop-i-preserved c =
     let q = p.before in
     let a = c.args in
     let inv = c.loop-i.invariant in
-    let value = to_z-of_z w16 q.i16_of.result (record { sfits = q.i16_of.type-inv }) in (
+    let value = to_z-of_z w16 q.i16_of.result (record { sfits = q.i16_of.type_inv }) in (
       omega arith,
-      p.put_i16.auto.0 ∙ inv.1,
+      p.put_i16.auto.buf ∙ inv.1,
       rw (p.put_i16.ensures, value, q.i16_of.ensures)
           (run_turn (λ k. bytes_of a.order 2 (of_z w16 (get_or a.src.now k (pos 0)))) 2 (λ i. refl) _ _ _ _ inv.2),
     )

@@ -17,7 +17,7 @@ loop-i-preserved c =
     let a = c.args in
     let inv = c.loop-i.invariant in (
       omega arith,
-      p.put_u32.auto.0 ∙ inv.1,
+      p.put_u32.auto.buf ∙ inv.1,
       rw (p.put_u32.ensures, q.u32_of.ensures)
           (run_turn (λ k. bytes_of a.order 4 (get_or a.src.now k 0)) 4 (λ i. refl) _ _ _ _ inv.2),
     )

@@ -49,7 +49,7 @@ loop-k-preserved c =
     let size = c.read_u32-size in
     let test = c.before.before.before.before.before.before in
     let t = turning test.before test.loop-k-test.true in
-    (omega arith, (after.auto.0 ∙ test.loop-k.invariant.1.0, rw size.ensures (turn_next t _ after.ensures)))
+    (omega arith, (after.auto.buf ∙ test.loop-k.invariant.1.0, rw size.ensures (turn_next t _ after.ensures)))
 
 pub returns : goal.returns
 returns c =

@@ -12,7 +12,7 @@ use Rattle.turning.proofs.unit_in.Goals as goal
 -- the code that is looked up is the file's
 code : (c : goal.After-read_i16)
     → to_z w16 (of_z w16 c.read_i16.result) ≡ i16_at c.args.order c.args.file.now 70
-code c = to_z-of_z w16 c.read_i16.result (record { sfits = c.read_i16.type-inv }) ∙ c.read_i16.ensures
+code c = to_z-of_z w16 c.read_i16.result (record { sfits = c.read_i16.type_inv }) ∙ c.read_i16.ensures
 
 pub returns-in-Known : goal.returns-in-Known
 unfolding unit_in

@@ -28,4 +28,4 @@ returns-in_default c =
     c.locate_at.ensures
     ∙ ap (λ (n : ℕ). stepped_by (volume h.dim n h.sizes.total h.sizes.steps h.kind) a.len a.t3) w.whole_in-at.ensures
     ∙ in_whole h a.len a.t3 d.decode-offset.result (sym d.decode-offset.ensures)
-    (λ r e. ⊎_elim (λ k. omega arith) (λ k. omega arith) (rw e at w.in_default.is))
+    (λ r e. ⊎_elim (λ k. omega arith) (λ k. omega arith) (rw e at w.in_default.in_default-own.keys2))

@@ -66,7 +66,7 @@ returns-in-4 c =
     let stored =
     two_stored (at l) 8 (word_bytes t.result) (word_bytes u.result) (s l) first-put.put_word.new.0 second-put.put_word-in-4.new.0
     (length-word_bytes t.result) first-put.put_word.ensures second-put.put_word-in-4.ensures in
-    rw chosen.in-4.is
+    rw chosen.in-4.is.keys1
     (stored ∙ words_kept (s l) (at l) (start l).requires.1 4 (one l 4 t.result t.ensures) (other l 4 u.result u.ensures) refl refl)
 
 pub returns-in-8 : goal.returns-in-8
@@ -80,7 +80,7 @@ returns-in-8 c =
     let stored =
     two_stored (at l) 8 (word_bytes t.result) (word_bytes u.result) (s l) first-put.put_word-in-8.new.0 second-put.put_word-in-8-2.new.0
     (length-word_bytes t.result) first-put.put_word-in-8.ensures second-put.put_word-in-8-2.ensures in
-    rw chosen.in-8.is
+    rw chosen.in-8.is.keys2
     (stored ∙ words_kept (s l) (at l) (start l).requires.1 8 (one l 8 t.result t.ensures) (other l 8 u.result u.ensures) refl refl)
 
 pub returns-in_default : goal.returns-in_default
@@ -94,5 +94,5 @@ returns-in_default c =
     let stored =
     two_stored (at l) 8 (word_bytes t.result) (word_bytes u.result) (s l) first-put.put_word-in_default.new.0 second-put.put_word-in_default-2.new.0
     (length-word_bytes t.result) first-put.put_word-in_default.ensures second-put.put_word-in_default-2.ensures in
-    rw (wide_other (start l).requires.0 chosen.in_default.is.0.1 chosen.in_default.is.1)
+    rw (wide_other (start l).requires.0 chosen.in_default.in_default-own.rest.0.1 chosen.in_default.in_default-own.rest.1)
     (stored ∙ words_crossed (s l) (at l) (start l).requires.1 (one l 8 u.result u.ensures) (other l 8 t.result t.ensures))

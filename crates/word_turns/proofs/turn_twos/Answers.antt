@@ -22,7 +22,7 @@ loop-left-preserved c =
     let a = start.args in
     left_next 2 a.start a.count a.buf.now (omega arith) 4 8 refl (a.start + a.count * 2)
     v.left v.buf v.invariant test.loop-left-test.true
-    block.turn_twos.new.0 block.turn_twos.auto.0 block.turn_twos.ensures
+    block.turn_twos.new.0 block.turn_twos.auto.buf block.turn_twos.ensures
 
 pub turn_units-requires : goal.turn_units-requires
 turn_units-requires c =

@@ -22,7 +22,7 @@ loop-left-preserved c =
     let a = start.args in
     left_next a.unit a.start a.count a.buf.now (wide_positive start.requires.0) (64 / a.unit) 64 (wide_fills start.requires.0) (a.start + a.count * a.unit)
     v.left v.buf v.invariant test.loop-left-test.true
-    block.turn_wide.new.0 block.turn_wide.auto.0 block.turn_wide.ensures
+    block.turn_wide.new.0 block.turn_wide.auto.buf block.turn_wide.ensures
 
 pub nonzero_div-left : goal.nonzero_div-left
 nonzero_div-left c = wide_positive c.requires.0
