@@ -7,7 +7,6 @@ use native.Mathlib.Numerals.{sub-one}
 use native.Mathlib.Omega.{arith}
 use lib.ListN.{length, take, drop, length-append, length-take, length-drop, length-reverse, take-append-drop}
 use lib.Seq.{length-take-le, take-take, take_at, drop_at, drop-drop, slice_empty}
-use Rattle.bytes.specs.Bytes.{rev, slice}
 use Rattle.number.proofs.Lists.{drop-take_add}
 use Rattle.units.specs.Units.{turned, turned_at}
 
@@ -126,11 +125,11 @@ turned_next w at m n l l' h k e =
     let k' : at + m * w ≤ length l = omega (arith, add-mul m (n - m) w, ap (λ (x : ℕ). x * w) s) in
     ap (λ (x : ℕ). turned_at w at x l) s ∙ turned_split w at m (n - m) l k' ∙ sym (rw e)
 
--- ---- The loop over `bytes::reverse`
+-- ---- The loop that reverses each unit
 
--- what `bytes::reverse` leaves is one unit turned round
-pub turned-reverse : (w at : ℕ) (l : List ℕ) → take at l ++ (rev (slice at (at + w) l) ++ drop (at + w) l) ≡ turned_at w at 1 l
-unfolding turned_at turned rev slice
+-- a part reversed in place is one unit turned round
+pub turned-reverse : (w at : ℕ) (l : List ℕ) → take at l ++ (reverse (take w (drop at l)) ++ drop (at + w) l) ≡ turned_at w at 1 l
+unfolding turned_at turned
 turned-reverse w at l = rw (drop-take_add at w l, drop-drop w at l)
 
 -- the bytes of n units are those of one, and of the others

@@ -10,19 +10,16 @@ use Rattle.buffer.proofs.make_room.Goals as goal
 
 pub returns-then-new-old : goal.returns-then-new-old
 returns-then-new-old c =
-    let cleared = c.before.before in
-    let slid = cleared.before.before.before.before.before in
-    let a = slid.args in
+    let a = c.args in
     let l = a.buf.now in
     let tail = a.len - (a.at + a.old) in
     let moved = take tail (drop (a.at + a.old) l) in
     let n : length moved ≡ tail = simp (length-take, length-drop) (omega arith) in
-    cleared.clear.ensures
-    ∙ put_right l (a.at + a.new) moved (replicate (a.old - a.new) 0) _ (a.at + a.new + tail) slid.slide.ensures (omega arith) (omega arith)
+    c.clear.ensures
+    ∙ put_right l (a.at + a.new) moved (replicate (a.old - a.new) 0) _ (a.at + a.new + tail) c.slide.ensures (omega arith) (omega arith)
 
 pub returns-else-new-old : goal.returns-else-new-old
 returns-else-new-old c =
-    let slid = c.before.before.before in
-    let a = slid.args in
+    let a = c.args in
     let none : a.old - a.new ≡ 0 = omega arith in
-    rw (none, append-nil) slid.slide.ensures
+    rw (none, append-nil) c.slide.ensures

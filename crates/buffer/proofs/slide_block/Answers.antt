@@ -7,9 +7,7 @@ use Rattle.buffer.proofs.slide_block.Goals as goal
 
 pub returns : goal.returns
 returns c =
-    let back = c.before.before in
-    let out = back.before.before.before.before.before in
-    let a = out.args in
+    let a = c.args in
     by_way_of a.buf.now _ _ _ a.from a.to a.n (a.from + a.n - a.from) (a.n - 0) (omega arith) (omega arith) (omega arith)
-    out.copy_in.ensures
-    back.copy_in-2.ensures
+    c.copy_in.ensures
+    c.copy_in-2.ensures

@@ -12,14 +12,12 @@ locate_shown-requires c = sym c.outline_of-outlined.ensures ∙ c.in-Shown.is
 pub returns-in-Hidden : goal.returns-in-Hidden
 unfolding located_of
 returns-in-Hidden c =
-    let k = c.before in
     let t = c.outlined-1.given in
-    hidden_answer k.args.file.now 0 _ Unlocated t.0.0 (sym k.outline_of-outlined.ensures ∙ t.1)
+    hidden_answer c.args.file.now 0 _ Unlocated t.0.0 (sym c.outline_of-outlined.ensures ∙ t.1)
 
 pub returns-in-Shown : goal.returns-in-Shown
 unfolding located_of
 returns-in-Shown c =
-    let k = c.before.before in
     let t = c.outlined-in-Shown-1.given in
     c.locate_shown.ensures
-    ∙ shown_answer k.args.file.now 0 _ Unlocated t.0.0 (sym k.outline_of-outlined.ensures ∙ t.1)
+    ∙ shown_answer c.args.file.now 0 _ Unlocated t.0.0 (sym c.outline_of-outlined.ensures ∙ t.1)

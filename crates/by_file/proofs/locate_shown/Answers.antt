@@ -27,112 +27,96 @@ use Rattle.by_file.proofs.locate_shown.Goals as goal
 
 pub returns-then-image_cut : goal.returns-then-image_cut
 returns-then-image_cut c =
-    let k = c.before.before in
-    let S = k.before.before.before.before in
-    let a = S.args in
+    let a = c.args in
     c.unlocated.ensures
-    ∙ shown_16 a.file.now a.outline S.requires a.len a.t4 (sym k.image_cut.ensures ∙ c.if-image_cut.true)
+    ∙ shown_16 a.file.now a.outline c.requires a.len a.t4 (sym c.image_cut.ensures ∙ c.if-image_cut.true)
 
 pub dims-dim-requires : goal.dims-dim-requires
 dims-dim-requires c =
-    let S = c.before.before.before.before.before in
-    omega (arith, shown_long S.args.file.now 0 S.args.outline S.requires)
+    omega (arith, shown_long c.args.file.now 0 c.args.outline c.requires)
 
 pub read_i16-bitpix-requires : goal.read_i16-bitpix-requires
 read_i16-bitpix-requires c =
-    let S = c.before.before.before.before.before.before in
-    omega (arith, shown_long S.args.file.now 0 S.args.outline S.requires)
-
--- where the function began, and the fields there
-abbrev begin : goal.After-read_i16-bitpix → goal.Start
-begin c = c.before.before.before.before.before.before.before
-
-abbrev read : goal.After-read_i16-bitpix → Shape
-read c = let S = begin c in fields S.args.file.now S.args.outline S.pre
-
-dims-are : (c : goal.After-read_i16-bitpix) → c.dims-dim.result ≡ (read c).dim
-unfolding shape_in
-dims-are c = c.dims-dim.ensures
-
-bitpix-is : (c : goal.After-read_i16-bitpix) → to_z w16 (of_z w16 c.read_i16-bitpix.result) ≡ (read c).bitpix
-unfolding shape_in
-bitpix-is c = to_z-of_z w16 c.read_i16-bitpix.result (record { sfits = c.read_i16-bitpix.type_inv }) ∙ c.read_i16-bitpix.ensures
+    omega (arith, shown_long c.args.file.now 0 c.args.outline c.requires)
 
 pub sizes_in-sizes-requires : goal.sizes_in-sizes-requires
+unfolding shape_in
 sizes_in-sizes-requires c =
-    let S = begin c in
-    rw (dims-are c, bitpix-is c) (shown_measured S.args.file.now 0 S.args.outline S.requires).small
-
--- the number of axes, and the sizes, are those of the fields
-count-is : (c : goal.After-axis_count) → c.axis_count.result ≡ axis_count (read c.before.before.before.before.before).dim
-count-is c = c.axis_count.ensures.0 ∙ ap axis_count (dims-are c.before.before.before.before.before)
+    let read = fields c.args.file.now c.args.outline c.requires in
+    let dims-are : c.dims-dim.result ≡ read.dim = c.dims-dim.ensures in
+    let bitpix-is : to_z w16 (of_z w16 c.read_i16-bitpix.result) ≡ read.bitpix = to_z-of_z w16 c.read_i16-bitpix.result (record { sfits = c.read_i16-bitpix.type_inv }) ∙ c.read_i16-bitpix.ensures in
+    rw (dims-are, bitpix-is) (shown_measured c.args.file.now 0 c.args.outline c.requires).small
 
 pub bytes_before-before-requires : goal.bytes_before-before-requires
+unfolding shape_in
 bytes_before-before-requires c =
-    let n = c.before.before in
-    let S = begin n.before.before.before.before.before in
-    let few = (shown_measured S.args.file.now 0 S.args.outline S.requires).small.axes in
-    (omega (arith, count-is n), omega (arith, slice-aggregate-bytes-before-2 c.before), search rules)
-
-abbrev last : goal.After-bytes_before-before → goal.After-read_i16-bitpix
-last c = c.before.before.before.before.before.before.before.before
-
-abbrev from : goal.After-bytes_before-before → goal.Start
-from c = begin (last c)
-
-abbrev index_in : goal.After-bytes_before-before → List ℕ
-index_in c = (from c).args.t4
-
-abbrev by : goal.After-bytes_before-before → Volume
-by c = let S = from c in volume S.args.file.now S.args.outline S.pre
-
-sizes-are : (c : goal.After-bytes_before-before) → c.sizes_in-sizes.result ≡ (by c).sizes
-sizes-are c = rw (dims-are (last c), bitpix-is (last c)) at c.sizes_in-sizes.ensures
-
--- what the loop answers
-abbrev stated : goal.After-bytes_before-before → List ℕ
-stated c = seven_axes (last c).before.dims.result c.axis_count.result
-
-answer : (c : goal.After-bytes_before-before) → Reaches (lengths_in (read (last c))) (by c).sizes.steps (index_in c) c.bytes_before-before.result
-answer c =
-    subst (λ (l : List ℕ). Reaches l (by c).sizes.steps (index_in c) c.bytes_before-before.result)
-    (λ i. seven_axes (dims-are (last c) i) (count-is c.before.before.before i))
-    (subst (λ (z : Sizes). Reaches (stated c) z.steps (index_in c) c.bytes_before-before.result) (sizes-are c) c.bytes_before-before.ensures)
-
--- rule 16 has passed
-whole_is : (c : goal.After-bytes_before-before) → let S = from c in
-    image_cut S.args.outline.layout.kind S.args.len S.args.outline.layout.image ≡ false
-whole_is c = let e = (last c).before.before in sym e.before.image-cut.ensures ∙ e.if1.left
+    let read = fields c.args.file.now c.args.outline c.requires in
+    let dims-are : c.dims-dim.result ≡ read.dim = c.dims-dim.ensures in
+    let count-is : c.axis_count.result ≡ axis_count read.dim = c.axis_count.ensures.0 ∙ ap axis_count dims-are in
+    let few = (shown_measured c.args.file.now 0 c.args.outline c.requires).small.axes in
+    (omega (arith, count-is), omega (arith, slice-aggregate-bytes-before-2 c), search rules)
 
 pub returns-then-before : goal.returns-then-before
+unfolding shape_in
 returns-then-before c =
-    let b = c.before.before in
-    let S = from b in
+    let read = fields c.args.file.now c.args.outline c.requires in
+    let dims-are : c.dims-dim.result ≡ read.dim = c.dims-dim.ensures in
+    let bitpix-is : to_z w16 (of_z w16 c.read_i16-bitpix.result) ≡ read.bitpix = to_z-of_z w16 c.read_i16-bitpix.result (record { sfits = c.read_i16-bitpix.type_inv }) ∙ c.read_i16-bitpix.ensures in
+    let count-is : c.axis_count.result ≡ axis_count read.dim = c.axis_count.ensures.0 ∙ ap axis_count dims-are in
+    let index_in = c.args.t4 in
+    let by = volume c.args.file.now c.args.outline c.requires in
+    let sizes-are : c.sizes_in-sizes.result ≡ by.sizes = rw (dims-are, bitpix-is) at c.sizes_in-sizes.ensures in
+    let stated = seven_axes c.dims-dim.result c.axis_count.result in
+    let answer : Reaches (lengths_in read) by.sizes.steps index_in c.bytes_before-before.result =
+        subst (λ (l : List ℕ). Reaches l by.sizes.steps index_in c.bytes_before-before.result)
+        (λ i. seven_axes (dims-are i) (count-is i))
+        (subst (λ (z : Sizes). Reaches stated z.steps index_in c.bytes_before-before.result) sizes-are c.bytes_before-before.ensures) in
+    let whole_is : image_cut c.args.outline.layout.kind c.args.len c.args.outline.layout.image ≡ false = sym c.image_cut.ensures ∙ c.if-image_cut.false in
     c.unlocated-then-before.ensures
-    ∙ shown_17 S.args.file.now S.args.outline S.requires S.args.len (index_in b) (whole_is b)
-    (reached_outside (answer b) c.if-before.true)
-
--- the index is inside, and the sum is exact
-inside : (c : goal.Else-before) → within (lengths_in (read (last c.before))) (index_in c.before) ≡ true
-inside c = reached_inside (answer c.before) c.if-before.false
-
-small : (c : goal.Else-before) → bytes_before (by c.before).sizes.steps (index_in c.before) ≤ image_limit
-small c = let S = from c.before in shown_small S.args.file.now S.args.outline S.pre S.args.len (index_in c.before) (inside c)
-
-exact : (c : goal.Else-before) → c.bytes_before-before.result ≡ bytes_before (by c.before).sizes.steps (index_in c.before)
-exact c = omega (arith, (answer c.before).inside (inside c), small c)
+    ∙ shown_17 c.args.file.now c.args.outline c.requires c.args.len index_in whole_is
+    (reached_outside answer c.if-before.true)
 
 pub overflow_add-result : goal.overflow_add-result
+unfolding shape_in
 overflow_add-result c =
-    let S = from c.before.before in
-    record { fits = omega (arith, exact c.before, small c.before, shown_low S.args.file.now S.args.outline S.requires) }
+    let read = fields c.args.file.now c.args.outline c.requires in
+    let dims-are : c.dims-dim.result ≡ read.dim = c.dims-dim.ensures in
+    let bitpix-is : to_z w16 (of_z w16 c.read_i16-bitpix.result) ≡ read.bitpix = to_z-of_z w16 c.read_i16-bitpix.result (record { sfits = c.read_i16-bitpix.type_inv }) ∙ c.read_i16-bitpix.ensures in
+    let count-is : c.axis_count.result ≡ axis_count read.dim = c.axis_count.ensures.0 ∙ ap axis_count dims-are in
+    let index_in = c.args.t4 in
+    let by = volume c.args.file.now c.args.outline c.requires in
+    let sizes-are : c.sizes_in-sizes.result ≡ by.sizes = rw (dims-are, bitpix-is) at c.sizes_in-sizes.ensures in
+    let stated = seven_axes c.dims-dim.result c.axis_count.result in
+    let answer : Reaches (lengths_in read) by.sizes.steps index_in c.bytes_before-before.result =
+        subst (λ (l : List ℕ). Reaches l by.sizes.steps index_in c.bytes_before-before.result)
+        (λ i. seven_axes (dims-are i) (count-is i))
+        (subst (λ (z : Sizes). Reaches stated z.steps index_in c.bytes_before-before.result) sizes-are c.bytes_before-before.ensures) in
+    let inside : within (lengths_in read) index_in ≡ true = reached_inside answer c.if-before.false in
+    let small : bytes_before by.sizes.steps index_in ≤ image_limit = shown_small c.args.file.now c.args.outline c.requires c.args.len index_in inside in
+    let exact : c.bytes_before-before.result ≡ bytes_before by.sizes.steps index_in = omega (arith, answer.inside inside, small) in
+    record { fits = omega (arith, exact, small, shown_low c.args.file.now c.args.outline c.requires) }
 
 pub returns : goal.returns
+unfolding shape_in
 returns c =
-    let b = c.before.before in
-    let S = from b in
-    let s = S.args.file.now in
-    let o = S.args.outline in
-    let offset = ap (λ (i : Image). i.offset) (sym (shown_image s o S.requires)) in
-    (λ i. At (record { place = offset i + exact c.before i; length = get_or (sizes-are b i).steps 0 0 }))
-    ∙ shown_at s o S.requires S.args.len (index_in b) (whole_is b) (inside c.before)
+    let read = fields c.args.file.now c.args.outline c.requires in
+    let dims-are : c.dims-dim.result ≡ read.dim = c.dims-dim.ensures in
+    let bitpix-is : to_z w16 (of_z w16 c.read_i16-bitpix.result) ≡ read.bitpix = to_z-of_z w16 c.read_i16-bitpix.result (record { sfits = c.read_i16-bitpix.type_inv }) ∙ c.read_i16-bitpix.ensures in
+    let count-is : c.axis_count.result ≡ axis_count read.dim = c.axis_count.ensures.0 ∙ ap axis_count dims-are in
+    let index_in = c.args.t4 in
+    let by = volume c.args.file.now c.args.outline c.requires in
+    let sizes-are : c.sizes_in-sizes.result ≡ by.sizes = rw (dims-are, bitpix-is) at c.sizes_in-sizes.ensures in
+    let stated = seven_axes c.dims-dim.result c.axis_count.result in
+    let answer : Reaches (lengths_in read) by.sizes.steps index_in c.bytes_before-before.result =
+        subst (λ (l : List ℕ). Reaches l by.sizes.steps index_in c.bytes_before-before.result)
+        (λ i. seven_axes (dims-are i) (count-is i))
+        (subst (λ (z : Sizes). Reaches stated z.steps index_in c.bytes_before-before.result) sizes-are c.bytes_before-before.ensures) in
+    let whole_is : image_cut c.args.outline.layout.kind c.args.len c.args.outline.layout.image ≡ false = sym c.image_cut.ensures ∙ c.if-image_cut.false in
+    let inside : within (lengths_in read) index_in ≡ true = reached_inside answer c.if-before.false in
+    let small : bytes_before by.sizes.steps index_in ≤ image_limit = shown_small c.args.file.now c.args.outline c.requires c.args.len index_in inside in
+    let exact : c.bytes_before-before.result ≡ bytes_before by.sizes.steps index_in = omega (arith, answer.inside inside, small) in
+    let s = c.args.file.now in
+    let o = c.args.outline in
+    let offset = ap (λ (i : Image). i.offset) (sym (shown_image s o c.requires)) in
+    (λ i. At (record { place = offset i + exact i; length = get_or (sizes-are i).steps 0 0 }))
+    ∙ shown_at s o c.requires c.args.len index_in whole_is inside

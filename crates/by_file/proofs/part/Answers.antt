@@ -6,18 +6,15 @@ use lib.ListN.{length, take, drop}
 use borrow.Author.Rules.{rules}
 use Rattle.by_file.proofs.part.Goals as goal
 
--- what the caller shows, of a single file and of a pair
-room : (c : goal.In-Single) → let a = c.args in a.at + a.n ≤ length a.file.now
-room c = rw c.in-Single.is at c.requires
-
-room-2 : (c : goal.In-Pair) → let a = c.args in a.at + a.n ≤ length a.image.now
-room-2 c = rw c.in-Pair.is at c.requires
-
 pub overflow_add-end : goal.overflow_add-end
-overflow_add-end c = record { fits = omega (arith, room c) }
+overflow_add-end c =
+    let room : let a = c.args in a.at + a.n ≤ length a.file.now = rw c.in-Single.is at c.requires in
+    record { fits = omega (arith, room) }
 
 pub overflow_add-end-in-Pair : goal.overflow_add-end-in-Pair
-overflow_add-end-in-Pair c = record { fits = omega (arith, room-2 c) }
+overflow_add-end-in-Pair c =
+    let room-2 : let a = c.args in a.at + a.n ≤ length a.image.now = rw c.in-Pair.is at c.requires in
+    record { fits = omega (arith, room-2) }
 
 pub returns-in-Single : goal.returns-in-Single
 returns-in-Single c =

@@ -8,10 +8,7 @@ use Rattle.byte_pairs.proofs.turned_at.Goals as goal
 
 pub returns : goal.returns
 returns c =
-    let load = c.before in
-    let known = load.before in
-    let start = known.before in
     c.turned.ensures
     ∙ ap reverse
-    (ap pair_bytes load.pair_at.ensures
-    ∙ pair_bytes_lem start.args.s.now (λ i. (known.shared_slice_known-1.given i).fits) start.args.at start.requires)
+    (ap pair_bytes c.pair_at.ensures
+    ∙ pair_bytes_lem c.args.s.now (λ i. (c.shared_slice_known-1.given i).fits) c.args.at c.requires)

@@ -11,6 +11,5 @@ swap_shown-requires c =
 pub returns-in-Hidden : goal.returns-in-Hidden
 returns-in-Hidden c =
     let hidden = c.outlined-1.given in
-    let outline = c.before in
-    let a = outline.args in
-    swaps_hidden a.file.now a.image.now hidden.0.0 (sym outline.outline_of-outlined.ensures ∙ hidden.1)
+    let a = c.args in
+    swaps_hidden a.file.now a.image.now hidden.0.0 (sym c.outline_of-outlined.ensures ∙ hidden.1)

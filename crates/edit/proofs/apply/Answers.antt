@@ -15,20 +15,6 @@ use Rattle.edit.proofs.Theorems.{plan_aligned}
 use borrow.Author.Rules.{rules}
 use Rattle.edit.proofs.apply.Goals as goal
 
-abbrev start-at : goal.After-plan_edit-planned → goal.Start
-start-at c = c.before.before.before.before.before
-
--- what the plan is of: the file in the first len bytes
-abbrev planned-of : goal.Start → Planned
-planned-of s =
-    let a = s.args in
-    planned_of (take a.len a.buf.now) (length a.buf.now) a.change a.code a.payload.now
-
-planned-at : (c : goal.After-plan_edit-planned) → c.plan_edit-planned.result ≡ planned-of (start-at c)
-planned-at c =
-    let s = start-at c in
-    rw (to_z-of_z w32 s.args.code s.fits.code, sub-zero) at c.plan_edit-planned.ensures
-
 pub returns-then-buf-len : goal.returns-then-buf-len
 returns-then-buf-len c =
     let a = c.args in
@@ -37,31 +23,41 @@ returns-then-buf-len c =
 
 pub splice-length-requires : goal.splice-length-requires
 splice-length-requires c =
-    let p = c.before.before in
-    let s = start-at p in
-    rw (to_z-of_z w32 s.args.code s.fits.code)
-    (p.if-buf-len.false, sym (planned-at p) ∙ c.in-Go.is)
+    let planned-of =
+        let a = c.args in
+        planned_of (take a.len a.buf.now) (length a.buf.now) a.change a.code a.payload.now in
+    let planned-at : c.plan_edit-planned.result ≡ planned-of =
+        rw (to_z-of_z w32 c.args.code s.fits.code, sub-zero) at c.plan_edit-planned.ensures in
+    rw (to_z-of_z w32 c.args.code s.fits.code)
+    (c.if-buf-len.false, sym planned-at ∙ c.in-Go.is)
 
 pub returns-in-Stop : goal.returns-in-Stop
 returns-in-Stop c =
-    let p = c.before in
-    let a = (start-at p).args in
+    let planned-of =
+        let a = c.args in
+        planned_of (take a.len a.buf.now) (length a.buf.now) a.change a.code a.payload.now in
+    let planned-at : c.plan_edit-planned.result ≡ planned-of =
+        rw (to_z-of_z w32 c.args.code s.fits.code, sub-zero) at c.plan_edit-planned.ensures in
+    let a = c.args in
     let t = c.planned-1.given in
-    let e = outcome_stop a.buf.now a.len a.change a.code a.payload.now p.if-buf-len.false t.0.0
-    (sym (planned-at p) ∙ t.1) in
+    let e = outcome_stop a.buf.now a.len a.change a.code a.payload.now c.if-buf-len.false t.0.0
+    (sym planned-at ∙ t.1) in
     (ap edit_answer (sym e), ap (buffer_after a.buf.now a.len) (sym e))
 
 pub returns-in-Go : goal.returns-in-Go
 returns-in-Go c =
-    let p = c.before.before.before.before.before in
-    let s = start-at p in
-    let a = s.args in
+    let planned-of =
+        let a = c.args in
+        planned_of (take a.len a.buf.now) (length a.buf.now) a.change a.code a.payload.now in
+    let planned-at : c.plan_edit-planned.result ≡ planned-of =
+        rw (to_z-of_z w32 c.args.code s.fits.code, sub-zero) at c.plan_edit-planned.ensures in
+    let a = c.args in
     let t = c.planned-in-Go-1.given in
-    let e = outcome_go a.buf.now a.len a.change a.code a.payload.now p.if-buf-len.false t.0.0
-    (sym (planned-at p) ∙ t.1) in
+    let e = outcome_go a.buf.now a.len a.change a.code a.payload.now c.if-buf-len.false t.0.0
+    (sym planned-at ∙ t.1) in
     let r = rw (to_z-of_z w32 a.code s.fits.code) at c.splice-length.ensures in
     let f = take a.len a.buf.now in
-    let go = planned f (length a.buf.now) a.change a.code a.payload.now t.0.0 (sym (planned-at p) ∙ t.1) in
+    let go = planned f (length a.buf.now) a.change a.code a.payload.now t.0.0 (sym planned-at ∙ t.1) in
     let x =
     sym (ap (λ (y : Plan). y.aligned) go.1)
     ∙ plan_aligned f (length a.buf.now) a.change a.code a.payload.now s.fits.code go.0 in

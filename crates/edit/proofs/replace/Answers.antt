@@ -6,5 +6,4 @@ use Rattle.edit.proofs.replace.Goals as goal
 
 pub returns : goal.returns
 returns c =
-    let s = c.before.before.before.before.before.before in
-    rw (to_z-of_z w32 s.args.code s.ranges.code) at c.apply.ensures
+    rw (to_z-of_z w32 c.args.code c.ranges.code) at c.apply.ensures

@@ -10,20 +10,11 @@ use Rattle.edit_store.proofs.Storing.{first_kept, first_new}
 use borrow.Author.Rules.{rules}
 use Rattle.edit_store.proofs.put_extender.Goals as goal
 
--- where the two ways meet, for the length and for the first byte
-meet-length : (j : goal.Joined-len-lt-FIRST) → length j.if-len-lt-FIRST.buf ≡ length j.args.buf.now
-meet-length j = ⊎_elim (λ w. rw w.5 w.2.kept.0) (λ w. rw w.1) j.if-len-lt-FIRST.branch
-
-meet-bytes : (j : goal.Joined-len-lt-FIRST)
-    → set j.if-len-lt-FIRST.buf 348 (first_byte_at j.args.end)
-    ≡ put j.args.buf.now 348
-    (extender_bytes j.args.len j.args.end j.args.buf.now)
-meet-bytes j =
-    let S = j.before.before in
-    let l = S.args.buf.now in
-    let b = first_byte_at S.args.end in
-    ⊎_elim (λ w. rw (lt-ltb S.args.len 352 (omega (arith, w.0.taken))) (first_new l j.if-len-lt-FIRST.buf b S.requires (w.5 ∙ w.2.ensures)))
-    (λ w. rw (le-ltb S.args.len 352 (omega (arith, w.0.left)), w.1) (first_kept l b S.requires)) j.if-len-lt-FIRST.branch
-
 pub returns : goal.returns
-returns c = c.put_first.ensures ∙ meet-bytes c.before.before.before.before
+returns c =
+    let meet-bytes : set c.if-len-lt-FIRST.buf 348 (first_byte_at c.args.end) ≡ put c.args.buf.now 348 (extender_bytes c.args.len c.args.end c.args.buf.now) =
+        let l = c.args.buf.now in
+        let b = first_byte_at c.args.end in
+        ⊎_elim (λ w. rw (lt-ltb c.args.len 352 (omega (arith, w.0.taken))) (first_new l c.if-len-lt-FIRST.buf b c.requires (w.5 ∙ w.2.ensures)))
+        (λ w. rw (le-ltb c.args.len 352 (omega (arith, w.0.left)), w.1) (first_kept l b c.requires)) c.if-len-lt-FIRST.branch in
+    c.put_first.ensures ∙ meet-bytes

@@ -16,34 +16,30 @@ use Rattle.edit_store.proofs.put_new.Goals as goal
 
 pub put_extension-requires : goal.put_extension-requires
 put_extension-requires c =
-    let s = c.before.before.before.before in
-    let a = s.args in
+    let a = c.args in
     let n = length_new a.order a.change a.code a.payload.now in
     let z = ap (λ (x : Change). new_size x (length a.payload.now)) c.in-Append.is in
-    (omega (arith, s.requires.0, n, z), omega (arith, s.requires.1, n, z))
+    (omega (arith, c.requires.0, n, z), omega (arith, c.requires.1, n, z))
 
 pub put_extension-requires-in-Replace : goal.put_extension-requires-in-Replace
 put_extension-requires-in-Replace c =
-    let s = c.before.before.before.before in
-    let a = s.args in
+    let a = c.args in
     let n = length_new a.order a.change a.code a.payload.now in
     let z = ap (λ (x : Change). new_size x (length a.payload.now)) c.in-Replace.is in
-    (omega (arith, s.requires.0, n, z), omega (arith, s.requires.1, n, z))
+    (omega (arith, c.requires.0, n, z), omega (arith, c.requires.1, n, z))
 
 pub returns-in-Append : goal.returns-in-Append
 returns-in-Append c =
-    let s = c.before.before.before.before.before.before.before in
-    let a = s.args in
-    let q = to_z-of_z w32 a.code s.ranges.code in
+    let a = c.args in
+    let q = to_z-of_z w32 a.code c.ranges.code in
     let e : c.put_extension.new.0 ≡ put a.buf.now a.at (stored a.order a.code a.payload.now) =
     rw q at c.put_extension.ensures in
     e ∙ rw (c.in-Append.is, append-nil)
 
 pub returns-in-Replace : goal.returns-in-Replace
 returns-in-Replace c =
-    let s = c.before.before.before.before.before.before.before in
-    let a = s.args in
-    let q = to_z-of_z w32 a.code s.ranges.code in
+    let a = c.args in
+    let q = to_z-of_z w32 a.code c.ranges.code in
     let e : c.put_extension-in-Replace.new.0 ≡ put a.buf.now a.at (stored a.order a.code a.payload.now) =
     rw q at c.put_extension-in-Replace.ensures in
     e ∙ rw (c.in-Replace.is, append-nil)

@@ -11,8 +11,7 @@ use Rattle.edit_store.proofs.put_offset.Goals as goal
 
 pub returns-in-Single : goal.returns-in-Single
 returns-in-Single c =
-    let s = c.before.before.before.before.before.before.before in
-    let a = s.args in
+    let a = c.args in
     let w = bytes_of a.order 4 (offset_bits a.end) in
     let b = length-bytes_of a.order 4 (offset_bits a.end) in
     let e : c.put_u32.new.0 ≡ sets a.buf.now 108 w =

@@ -7,10 +7,5 @@ use Rattle.encode.proofs.write_rows.Goals as goal
 pub returns : goal.returns
 unfolding rows_bytes
 returns c =
-    let c5 = c.before.before in
-    let c4 = c5.before.before.before.before in
-    let c3 = c4.before.before.before.before.before in
-    let c2 = c3.before.before.before.before.before in
-    let c1 = c2.before.before.before.before.before in
-    rw (c5.put_magic.ensures, c4.put_text16.ensures, c3.put_u32x4-3.ensures, c2.put_u32x4-2.ensures, c1.put_u32x4.ensures)
+    rw (c.put_magic.ensures, c.put_text16.ensures, c.put_u32x4-3.ensures, c.put_u32x4-2.ensures, c.put_u32x4.ensures)
     (simp (sets_split, length-padded, length_u32s))

@@ -21,29 +21,25 @@ returns-then-left-lt16 c = sym (rule_short c.args.size c.args.left c.if-left-lt1
 
 pub returns-then-size-le0 : goal.returns-then-size-le0
 returns-then-size-le0 c =
-    let s = c.before.before in
-    sym (rule_below s.args.size s.args.left (tested s.ranges.size c.if-size-le0.true))
+    sym (rule_below c.args.size c.args.left (tested c.ranges.size c.if-size-le0.true))
 
 pub overflow_cast-n : goal.overflow_cast-n
 overflow_cast-n c =
-    let s = c.before.before in
-    let p = positive_is s.args.size s.ranges.size (tested s.ranges.size c.if-size-le0.false) in
-    rw (to_z-of_z w32 s.args.size s.ranges.size) (rw p.0 (tt, record { fits = omega (arith, p.1) }))
+    let p = positive_is c.args.size c.ranges.size (tested c.ranges.size c.if-size-le0.false) in
+    rw (to_z-of_z w32 c.args.size c.ranges.size) (rw p.0 (tt, record { fits = omega (arith, p.1) }))
 
 pub returns-then-n-ne0 : goal.returns-then-n-ne0
 returns-then-n-ne0 c =
-    let s = c.before.before.before in
-    let z = s.args.size in
-    let n = rw (to_z-of_z w32 z s.ranges.size) at c.if-n-ne0.true in
-    rw (rule_above z s.args.left (omega arith) (tested s.ranges.size c.if-size-le0.false), ne_eqb (nat_abs z % 16) 0 n)
+    let z = c.args.size in
+    let n = rw (to_z-of_z w32 z c.ranges.size) at c.if-n-ne0.true in
+    rw (rule_above z c.args.left (omega arith) (tested c.ranges.size c.if-size-le0.false), ne_eqb (nat_abs z % 16) 0 n)
 
 pub returns : goal.returns
 returns c =
-    let s = c.before.before.before in
-    let z = s.args.size in
-    let n = rw (to_z-of_z w32 z s.ranges.size) at c.if-n-ne0.false in
+    let z = c.args.size in
+    let n = rw (to_z-of_z w32 z c.ranges.size) at c.if-n-ne0.false in
     rw (
-      to_z-of_z w32 z s.ranges.size,
-      rule_above z s.args.left (omega arith) (tested s.ranges.size c.if-size-le0.false),
+      to_z-of_z w32 z c.ranges.size,
+      rule_above z c.args.left (omega arith) (tested c.ranges.size c.if-size-le0.false),
       eq-eqb (nat_abs z % 16) 0 n,
     )

@@ -12,4 +12,4 @@ returns-then-end-s c =
     let a = c.args in
     let n = length a.out.now in
     let e : a.at + n - a.at ≡ n = omega arith in
-    part_copied a.at _ a.s.now a.out.now _ e (omega arith) c.before.before.copy.ensures.1
+    part_copied a.at _ a.s.now a.out.now _ e (omega arith) c.copy_from_slice.ensures.after

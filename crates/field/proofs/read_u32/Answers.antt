@@ -8,8 +8,7 @@ use borrow.Author.Rules.{rules}
 use Rattle.field.proofs.read_u32.Goals as goal
 
 -- a number of four digits to the base 256, its digits turned round
-digits-turned : (a b c d : ℕ) → a < 256 → b < 256 → c < 256 → d < 256 → (n : ℕ) → n ≡ a + 256 * b + 65536 * c + 16777216 * d
-    → n / 16777216 + 256 * (n / 65536 % 256) + 65536 * (n / 256 % 256) + 16777216 * (n % 256) ≡ d + 256 * (c + 256 * (b + 256 * a))
+digits-turned : (a b c d : ℕ) → a < 256 → b < 256 → c < 256 → d < 256 → (n : ℕ) → n ≡ a + 256 * b + 65536 * c + 16777216 * d → n / 16777216 + 256 * (n / 65536 % 256) + 65536 * (n / 256 % 256) + 16777216 * (n % 256) ≡ d + 256 * (c + 256 * (b + 256 * a))
 digits-turned a b c d ha hb hc hd n e =
     let first : n % 256 ≡ a = omega arith in
     let past_first : n / 256 ≡ b + 256 * (c + 256 * d) = omega arith in
@@ -26,11 +25,10 @@ returns-in-Little c = rw c.in-Little.is (simp add-zero (omega arith))
 pub returns-in-Big : goal.returns-in-Big
 unfolding u32_at
 returns-in-Big c =
-    let k = c.before.before in
-    let b4 = k.byte32-d.ensures in
-    let b3 = k.byte32-c.ensures in
-    let b2 = k.byte32-b.ensures in
-    let b1 = k.byte32-a.ensures in
+    let b4 = c.byte32-d.ensures in
+    let b3 = c.byte32-c.ensures in
+    let b2 = c.byte32-b.ensures in
+    let b1 = c.byte32-a.ensures in
     rw c.in-Big.is
     (simp add-zero
     (c.turned32.ensures

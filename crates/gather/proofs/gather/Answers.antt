@@ -8,12 +8,10 @@ use Rattle.gather.proofs.gather.Goals as goal
 
 pub up_to-requires : goal.up_to-requires
 up_to-requires c =
-    let s = c.before.before.before.before in
-    let all : take 7 s.args.axes ≡ s.args.axes = take_all 7 s.args.axes (omega arith) in
-    ((omega arith, omega arith), ((s.requires.0, omega arith), rw all s.requires.1))
+    let all : take 7 c.args.axes ≡ c.args.axes = take_all 7 c.args.axes (omega arith) in
+    ((omega arith, omega arith), ((c.requires.b_bound, omega arith), rw all c.requires.1))
 
 pub returns : goal.returns
 returns c =
-    let s = c.before.before.before.before.before.before.before.before in
-    let all : take 7 s.args.axes ≡ s.args.axes = take_all 7 s.args.axes (omega arith) in
+    let all : take 7 c.args.axes ≡ c.args.axes = take_all 7 c.args.axes (omega arith) in
     rw all at c.up_to.ensures.0

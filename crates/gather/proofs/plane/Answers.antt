@@ -4,6 +4,5 @@ use Rattle.gather.proofs.plane.Goals as goal
 
 pub tiles-requires : goal.tiles-requires
 tiles-requires c =
-    let s = c.before.before.before.before.before.before.before in
-    let a = s.args in
-    ((c.is_tiled.ensures c.if-is_tiled.true, s.requires.0), s.requires.1)
+    let a = c.args in
+    ((c.is_tiled.ensures c.if-is_tiled.true, c.requires.b_bound), c.requires.1)

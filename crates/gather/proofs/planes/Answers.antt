@@ -18,41 +18,36 @@ loop-k-init c = (refl, stacked_start _ _ _ _ _ _, omega arith, refl, refl)
 pub overflow_mul-lift : goal.overflow_mul-lift
 overflow_mul-lift c =
     let v = c.loop-k in
-    let s = c.before.before.before.before.before.before in
-    let a = s.args in
+    let a = c.args in
     let below = mul-le-mul_left {m = v.k} {n = a.z.length - 1} a.lift (omega arith) in
     omega arith
 
 pub overflow_add-at : goal.overflow_add-at
 overflow_add-at c =
     let v = c.loop-k in
-    let s = c.before.before.before.before.before.before in
-    let a = s.args in
+    let a = c.args in
     let below = mul-le-mul_left {m = v.k} {n = a.z.length - 1} a.lift (omega arith) in
     omega arith
 
 pub place_of-requires : goal.place_of-requires
 place_of-requires c =
     let v = c.loop-k in
-    let s = c.before.before.before.before.before.before in
-    let a = s.args in
-    let whole = s.requires.1.0 v.k (omega arith) in
-    (omega arith, omega (arith, inside_from _ _ _ _ whole))
+    let a = c.args in
+    let whole = c.requires.by_index v.k (omega arith) in
+    record { j_lt_length = omega arith; j_bound = omega (arith, inside_from _ _ _ _ whole) }
 
 pub plane-requires : goal.plane-requires
 plane-requires c =
     let v = c.loop-k in
-    let s = c.before.before.before.before.before.before.before.before in
-    let a = s.args in
-    let whole = s.requires.1.0 v.k (omega arith) in
+    let a = c.args in
+    let whole = c.requires.by_index v.k (omega arith) in
     let below = mul-le-mul_left {m = v.k} {n = a.z.length - 1} a.lift (omega arith) in
-    ((s.requires.0.0, omega (arith, v.invariant.4)), rw c.place_of.ensures.0 (whole, omega (arith, v.invariant.3)))
+    ((c.requires.b_bound.0, omega (arith, v.invariant.4)), rw c.place_of.ensures.0 (whole, omega (arith, v.invariant.3)))
 
 pub loop-k-preserved : goal.loop-k-preserved
 loop-k-preserved c =
     let v = c.loop-k in
-    let s = c.before.before.before.before.before.before.before.before.before.before.before.before.before in
-    let a = s.args in
+    let a = c.args in
     let place = c.place_of.ensures.0 in
     let row : ℕ → ℕ → List ℕ = λ p j. gathered a.b a.src.now (p + reach a.y j) (a.x ∷ []) in
     let same = ap (λ (p : ℕ). laid (a.at + a.lift * v.k) a.pitch (row p) a.y.length v.out) place in

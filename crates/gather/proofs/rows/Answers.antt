@@ -18,42 +18,37 @@ loop-j-init c = (refl, laid_start _ _ _ _, omega arith, refl)
 pub overflow_mul-pitch : goal.overflow_mul-pitch
 overflow_mul-pitch c =
     let v = c.loop-j in
-    let s = c.before.before.before.before.before in
-    let a = s.args in
+    let a = c.args in
     let below = mul-le-mul_left {m = v.j} {n = a.y.length - 1} a.pitch (omega arith) in
     omega arith
 
 pub overflow_add-at : goal.overflow_add-at
 overflow_add-at c =
     let v = c.loop-j in
-    let s = c.before.before.before.before.before in
-    let a = s.args in
+    let a = c.args in
     let below = mul-le-mul_left {m = v.j} {n = a.y.length - 1} a.pitch (omega arith) in
     omega arith
 
 pub place_of-requires : goal.place_of-requires
 place_of-requires c =
     let v = c.loop-j in
-    let s = c.before.before.before.before.before in
-    let a = s.args in
-    let row = inside_row a.b (length a.src.now) a.from a.x a.y s.requires.1.0 v.j (omega arith) in
-    (omega arith, omega (arith, inside_from _ _ _ _ row))
+    let a = c.args in
+    let row = inside_row a.b (length a.src.now) a.from a.x a.y c.requires.inside v.j (omega arith) in
+    record { j_lt_length = omega arith; j_bound = omega (arith, inside_from _ _ _ _ row) }
 
 pub row-requires : goal.row-requires
 row-requires c =
     let v = c.loop-j in
-    let s = c.before.before.before.before.before.before in
-    let a = s.args in
-    let row = inside_row a.b (length a.src.now) a.from a.x a.y s.requires.1.0 v.j (omega arith) in
+    let a = c.args in
+    let row = inside_row a.b (length a.src.now) a.from a.x a.y c.requires.inside v.j (omega arith) in
     let below = mul-le-mul_left {m = v.j} {n = a.y.length - 1} a.pitch (omega arith) in
     let len = length-row a.b a.src.now (a.from + reach a.y v.j) a.x row in
-    rw c.place_of.ensures.0 (s.requires.0, (row, omega (arith, v.invariant.3)))
+    rw c.place_of.ensures.0 (c.requires.b_bound, (row, omega (arith, v.invariant.3)))
 
 pub loop-j-preserved : goal.loop-j-preserved
 loop-j-preserved c =
     let v = c.loop-j in
-    let s = c.before.before.before.before.before.before.before.before.before in
-    let a = s.args in
+    let a = c.args in
     let place = c.place_of.ensures.0 in
     let same = ap (λ (i : ℕ). gathered a.b a.src.now i (a.x ∷ [])) place in
     let more = laid_next a.at a.pitch _ v.j _ _ _ _ v.invariant.1 c.row.ensures.0 same in

@@ -12,24 +12,21 @@ use Rattle.gather.proofs.tile.Goals as goal
 
 pub by_width-requires : goal.by_width-requires
 by_width-requires c =
-    let s = c.before.before.before.before.before in
-    let a = s.args in
-    let runs = inside_run a.b a.x a.y s.requires.0.0 a.from (length a.src.now) s.requires.1.0 in
+    let a = c.args in
+    let runs = inside_run a.b a.x a.y c.requires.tiled.0 a.from (length a.src.now) c.requires.inside in
     let len = length-row (a.y.length * a.b) a.src.now a.from a.x runs in
-    let fit : a.x.length * (a.y.length * a.b) ≤ 1024 * 64 = mul-le-mul s.requires.0.0.narrow s.requires.0.1.1.0 in
-    (s.requires.0.1.1.0, (runs, omega arith))
+    let fit : a.x.length * (a.y.length * a.b) ≤ 1024 * 64 = mul-le-mul c.requires.tiled.0.narrow c.requires.tiled.1.1.0 in
+    record { b_bound = c.requires.tiled.1.1.0; inside = runs; axis_in_bounds = omega arith }
 
 pub rows-requires : goal.rows-requires
 rows-requires c =
-    let s = c.before.before.before.before.before.before.before.before.before in
-    let a = s.args in
-    let fit : a.x.length * (a.y.length * a.b) ≤ 1024 * 64 = mul-le-mul s.requires.0.0.narrow s.requires.0.1.1.0 in
-    (omega arith, (inside_tile a.b a.x a.y s.requires.0.0 a.from (length a.src.now) s.requires.1.0 _ (omega arith), s.requires.1.1))
+    let a = c.args in
+    let fit : a.x.length * (a.y.length * a.b) ≤ 1024 * 64 = mul-le-mul c.requires.tiled.0.narrow c.requires.tiled.1.1.0 in
+    record { b_bound = omega arith; inside = inside_tile a.b a.x a.y c.requires.tiled.0 a.from (length a.src.now) c.requires.inside _ (omega arith); b_in_bounds = c.requires.b_in_bounds }
 
 pub returns : goal.returns
 returns c =
-    let s = c.before.before.before.before.before.before.before.before.before.before.before.before in
-    let a = s.args in
+    let a = c.args in
     let filled = c.by_width.ensures.0 in
-    let same = row_by_tile a.b a.x a.y s.requires.0.0 a.from a.src.now _ _ s.requires.1.0 filled in
+    let same = row_by_tile a.b a.x a.y c.requires.tiled.0 a.from a.src.now _ _ c.requires.inside filled in
     c.rows.ensures ∙ laid_same a.at a.pitch _ _ a.y.length a.out.now same

@@ -15,7 +15,7 @@ use Rattle.gather.proofs.Runs.{cut}
 use Rattle.gather.proofs.tiles.Goals as goal
 
 pub nonzero_div-side : goal.nonzero_div-side
-nonzero_div-side c = omega (arith, c.requires.0.0.some)
+nonzero_div-side c = omega (arith, c.requires.tiled.0.some)
 
 pub loop-j-init : goal.loop-j-init
 loop-j-init c = (refl, refl, laid_start _ _ _ _, omega arith, refl, refl)
@@ -23,10 +23,9 @@ loop-j-init c = (refl, refl, laid_start _ _ _ _, omega arith, refl, refl)
 pub overflow_mul-low : goal.overflow_mul-low
 overflow_mul-low c =
     let v = c.loop-j in
-    let s = c.before.before.before.before.before.before.before in
-    let a = s.args in
+    let a = c.args in
     let less = c.lesser-m in
-    let f = cut a.b (length a.src.now) a.from a.x a.y v.j less.result s.requires.0.0 s.requires.0.1.0 s.requires.1.0
+    let f = cut a.b (length a.src.now) a.from a.x a.y v.j less.result c.requires.tiled.0 c.requires.tiled.1.0 c.requires.inside
     (omega arith)
     (omega (arith, less.ensures)) in
     let fit = inside_from _ _ _ _ f.inside in
@@ -35,10 +34,9 @@ overflow_mul-low c =
 pub overflow_sub-low : goal.overflow_sub-low
 overflow_sub-low c =
     let v = c.loop-j in
-    let s = c.before.before.before.before.before.before.before in
-    let a = s.args in
+    let a = c.args in
     let less = c.lesser-m in
-    let f = cut a.b (length a.src.now) a.from a.x a.y v.j less.result s.requires.0.0 s.requires.0.1.0 s.requires.1.0
+    let f = cut a.b (length a.src.now) a.from a.x a.y v.j less.result c.requires.tiled.0 c.requires.tiled.1.0 c.requires.inside
     (omega arith)
     (omega (arith, less.ensures)) in
     omega (arith, f.till)
@@ -46,10 +44,9 @@ overflow_sub-low c =
 pub overflow_mul-low-in-loop-j : goal.overflow_mul-low-in-loop-j
 overflow_mul-low-in-loop-j c =
     let v = c.loop-j in
-    let s = c.before.before.before.before.before.before.before.before in
-    let a = s.args in
+    let a = c.args in
     let less = c.lesser-m in
-    let f = cut a.b (length a.src.now) a.from a.x a.y v.j less.result s.requires.0.0 s.requires.0.1.0 s.requires.1.0
+    let f = cut a.b (length a.src.now) a.from a.x a.y v.j less.result c.requires.tiled.0 c.requires.tiled.1.0 c.requires.inside
     (omega arith)
     (omega (arith, less.ensures)) in
     let fit = inside_from _ _ _ _ f.inside in
@@ -58,10 +55,9 @@ overflow_mul-low-in-loop-j c =
 pub overflow_add-low : goal.overflow_add-low
 overflow_add-low c =
     let v = c.loop-j in
-    let s = c.before.before.before.before.before.before.before.before in
-    let a = s.args in
+    let a = c.args in
     let less = c.lesser-m in
-    let f = cut a.b (length a.src.now) a.from a.x a.y v.j less.result s.requires.0.0 s.requires.0.1.0 s.requires.1.0
+    let f = cut a.b (length a.src.now) a.from a.x a.y v.j less.result c.requires.tiled.0 c.requires.tiled.1.0 c.requires.inside
     (omega arith)
     (omega (arith, less.ensures)) in
     let fit = inside_from _ _ _ _ f.inside in
@@ -70,10 +66,9 @@ overflow_add-low c =
 pub overflow_add-low-in-loop-j : goal.overflow_add-low-in-loop-j
 overflow_add-low-in-loop-j c =
     let v = c.loop-j in
-    let s = c.before.before.before.before.before.before.before.before in
-    let a = s.args in
+    let a = c.args in
     let less = c.lesser-m in
-    let f = cut a.b (length a.src.now) a.from a.x a.y v.j less.result s.requires.0.0 s.requires.0.1.0 s.requires.1.0
+    let f = cut a.b (length a.src.now) a.from a.x a.y v.j less.result c.requires.tiled.0 c.requires.tiled.1.0 c.requires.inside
     (omega arith)
     (omega (arith, less.ensures)) in
     let fit = inside_from _ _ _ _ f.inside in
@@ -82,39 +77,35 @@ overflow_add-low-in-loop-j c =
 pub overflow_mul-pitch : goal.overflow_mul-pitch
 overflow_mul-pitch c =
     let v = c.loop-j in
-    let s = c.before.before.before.before.before.before.before.before.before in
-    let a = s.args in
+    let a = c.args in
     let below = mul-le-mul_left {m = v.j} {n = a.y.length - 1} a.pitch (omega arith) in
     omega arith
 
 pub overflow_add-at : goal.overflow_add-at
 overflow_add-at c =
     let v = c.loop-j in
-    let s = c.before.before.before.before.before.before.before.before.before in
-    let a = s.args in
+    let a = c.args in
     let below = mul-le-mul_left {m = v.j} {n = a.y.length - 1} a.pitch (omega arith) in
     omega arith
 
 pub tile-requires : goal.tile-requires
 tile-requires c =
     let v = c.loop-j in
-    let s = c.before.before.before.before.before.before.before.before.before.before in
-    let a = s.args in
+    let a = c.args in
     let less = c.lesser-m in
-    let f = cut a.b (length a.src.now) a.from a.x a.y v.j less.result s.requires.0.0 s.requires.0.1.0 s.requires.1.0
+    let f = cut a.b (length a.src.now) a.from a.x a.y v.j less.result c.requires.tiled.0 c.requires.tiled.1.0 c.requires.inside
     (omega arith)
     (omega (arith, less.ensures)) in
     let m = less.result in
     let room = mul-le-mul_left {m = v.j + (m - 1)} {n = a.y.length - 1} a.pitch (omega (arith, f.till, f.some)) in
-    ((f.tiled, (s.requires.0.1.0, (f.line, omega (arith, v.invariant.5)))), (f.inside, omega (arith, mul-add a.pitch v.j (m - 1), v.invariant.4)))
+    record { tiled = (f.tiled, (c.requires.tiled.1.0, (f.line, omega (arith, v.invariant.5)))); inside = f.inside; b_in_bounds = omega (arith, mul-add a.pitch v.j (m - 1), v.invariant.4) }
 
 pub overflow_add-j : goal.overflow_add-j
 overflow_add-j c =
     let v = c.loop-j in
-    let s = c.before.before.before.before.before.before.before.before.before.before.before.before.before.before.before in
-    let a = s.args in
+    let a = c.args in
     let less = c.lesser-m in
-    let f = cut a.b (length a.src.now) a.from a.x a.y v.j less.result s.requires.0.0 s.requires.0.1.0 s.requires.1.0
+    let f = cut a.b (length a.src.now) a.from a.x a.y v.j less.result c.requires.tiled.0 c.requires.tiled.1.0 c.requires.inside
     (omega arith)
     (omega (arith, less.ensures)) in
     omega (arith, f.till)
@@ -122,10 +113,9 @@ overflow_add-j c =
 pub loop-j-smaller : goal.loop-j-smaller
 loop-j-smaller c =
     let v = c.loop-j in
-    let s = c.before.before.before.before.before.before.before.before.before.before.before.before.before.before.before in
-    let a = s.args in
+    let a = c.args in
     let less = c.lesser-m in
-    let f = cut a.b (length a.src.now) a.from a.x a.y v.j less.result s.requires.0.0 s.requires.0.1.0 s.requires.1.0
+    let f = cut a.b (length a.src.now) a.from a.x a.y v.j less.result c.requires.tiled.0 c.requires.tiled.1.0 c.requires.inside
     (omega arith)
     (omega (arith, less.ensures)) in
     omega (arith, f.some, f.till)
@@ -133,10 +123,9 @@ loop-j-smaller c =
 pub loop-j-preserved : goal.loop-j-preserved
 loop-j-preserved c =
     let v = c.loop-j in
-    let s = c.before.before.before.before.before.before.before.before.before.before.before.before.before.before.before in
-    let a = s.args in
+    let a = c.args in
     let less = c.lesser-m in
-    let f = cut a.b (length a.src.now) a.from a.x a.y v.j less.result s.requires.0.0 s.requires.0.1.0 s.requires.1.0
+    let f = cut a.b (length a.src.now) a.from a.x a.y v.j less.result c.requires.tiled.0 c.requires.tiled.1.0 c.requires.inside
     (omega arith)
     (omega (arith, less.ensures)) in
     let m = less.result in

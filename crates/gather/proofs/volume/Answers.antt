@@ -7,66 +7,58 @@ use Rattle.gather.proofs.volume.Goals as goal
 
 pub overflow_mul-pitch : goal.overflow_mul-pitch
 overflow_mul-pitch c =
-    let s = c.before.before.before.before in
-    let a = s.args in
-    let len = whole_length a.b a.src.now a.from a.x a.y a.z s.requires.1.0 in
-    let size = sizes a.b a.src.now a.from a.x a.y a.z s.requires.1.0 in
+    let a = c.args in
+    let len = whole_length a.b a.src.now a.from a.x a.y a.z c.requires.inside in
+    let size = sizes a.b a.src.now a.from a.x a.y a.z c.requires.inside in
     omega arith
 
 pub overflow_mul-lift : goal.overflow_mul-lift
 overflow_mul-lift c =
-    let s = c.before.before.before.before.before in
-    let a = s.args in
-    let len = whole_length a.b a.src.now a.from a.x a.y a.z s.requires.1.0 in
-    let size = sizes a.b a.src.now a.from a.x a.y a.z s.requires.1.0 in
+    let a = c.args in
+    let len = whole_length a.b a.src.now a.from a.x a.y a.z c.requires.inside in
+    let size = sizes a.b a.src.now a.from a.x a.y a.z c.requires.inside in
     omega arith
 
 pub overflow_mul-end : goal.overflow_mul-end
 overflow_mul-end c =
-    let s = c.before.before.before.before.before.before in
-    let a = s.args in
-    let len = whole_length a.b a.src.now a.from a.x a.y a.z s.requires.1.0 in
-    let size = sizes a.b a.src.now a.from a.x a.y a.z s.requires.1.0 in
+    let a = c.args in
+    let len = whole_length a.b a.src.now a.from a.x a.y a.z c.requires.inside in
+    let size = sizes a.b a.src.now a.from a.x a.y a.z c.requires.inside in
     omega arith
 
 pub overflow_add-end : goal.overflow_add-end
 overflow_add-end c =
-    let s = c.before.before.before.before.before.before in
-    let a = s.args in
-    let len = whole_length a.b a.src.now a.from a.x a.y a.z s.requires.1.0 in
-    let size = sizes a.b a.src.now a.from a.x a.y a.z s.requires.1.0 in
+    let a = c.args in
+    let len = whole_length a.b a.src.now a.from a.x a.y a.z c.requires.inside in
+    let size = sizes a.b a.src.now a.from a.x a.y a.z c.requires.inside in
     omega arith
 
 pub planes-requires : goal.planes-requires
 planes-requires c =
-    let s = c.before.before.before.before.before.before.before.before.before.before in
-    let a = s.args in
-    let len = whole_length a.b a.src.now a.from a.x a.y a.z s.requires.1.0 in
-    let size = sizes a.b a.src.now a.from a.x a.y a.z s.requires.1.0 in
-    (s.requires.0, (inside_across a.b a.src.now a.from a.x a.y a.z s.requires.1.0, omega arith))
+    let a = c.args in
+    let len = whole_length a.b a.src.now a.from a.x a.y a.z c.requires.inside in
+    let size = sizes a.b a.src.now a.from a.x a.y a.z c.requires.inside in
+    record { b_bound = c.requires.b_bound; by_index = inside_across a.b a.src.now a.from a.x a.y a.z c.requires.inside; b_in_bounds = omega arith }
 
 pub returns-then-is_tiled : goal.returns-then-is_tiled
 returns-then-is_tiled c =
-    let s = c.before.before.before.before.before.before.before.before.before.before.before.before.before.before.before in
-    let a = s.args in
-    let len = whole_length a.b a.src.now a.from a.x a.y a.z s.requires.1.0 in
-    let size = sizes a.b a.src.now a.from a.x a.y a.z s.requires.1.0 in
-    let all = across a.b a.src.now a.from a.x a.y a.z s.requires.1.0 a.out.now a.at s.requires.1.1 in
+    let a = c.args in
+    let len = whole_length a.b a.src.now a.from a.x a.y a.z c.requires.inside in
+    let size = sizes a.b a.src.now a.from a.x a.y a.z c.requires.inside in
+    let all = across a.b a.src.now a.from a.x a.y a.z c.requires.inside a.out.now a.at c.requires.z_in_bounds in
     (c.planes.ensures ∙ all, omega arith)
 
 pub planes-requires-2 : goal.planes-requires-2
 planes-requires-2 c =
-    let s = c.before.before.before.before.before.before.before.before.before.before in
-    let a = s.args in
-    let len = whole_length a.b a.src.now a.from a.x a.y a.z s.requires.1.0 in
-    let size = sizes a.b a.src.now a.from a.x a.y a.z s.requires.1.0 in
-    (s.requires.0, (inside_plane a.b a.src.now a.from a.x a.y a.z s.requires.1.0, omega arith))
+    let a = c.args in
+    let len = whole_length a.b a.src.now a.from a.x a.y a.z c.requires.inside in
+    let size = sizes a.b a.src.now a.from a.x a.y a.z c.requires.inside in
+    record { b_bound = c.requires.b_bound; by_index = inside_plane a.b a.src.now a.from a.x a.y a.z c.requires.inside; b_in_bounds = omega arith }
 
 pub returns : goal.returns
 returns c =
-    let s = c.before.before.before.before.before.before.before.before.before.before.before.before.before.before.before in
-    let a = s.args in
-    let len = whole_length a.b a.src.now a.from a.x a.y a.z s.requires.1.0 in
-    let size = sizes a.b a.src.now a.from a.x a.y a.z s.requires.1.0 in
-    let all = in_order_lem a.b a.src.now a.from a.x a.y a.z s.requires.1.0 a.out.now a.at s.requires.1.1 in
+    let a = c.args in
+    let len = whole_length a.b a.src.now a.from a.x a.y a.z c.requires.inside in
+    let size = sizes a.b a.src.now a.from a.x a.y a.z c.requires.inside in
+    let all = in_order_lem a.b a.src.now a.from a.x a.y a.z c.requires.inside a.out.now a.at c.requires.z_in_bounds in
     (c.planes-2.ensures ∙ all, omega arith)

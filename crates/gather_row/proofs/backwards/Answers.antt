@@ -13,25 +13,23 @@ use Rattle.gather_row.proofs.Lines.{back_of, is_back, cut_back}
 use Rattle.gather_row.proofs.backwards.Goals as goal
 
 pub nonzero_div-side : goal.nonzero_div-side
-nonzero_div-side c = omega (arith, c.requires.0.0)
+nonzero_div-side c = omega (arith, c.requires.le_b.0)
 
 pub loop-j-init : goal.loop-j-init
 loop-j-init c =
-    let s = c.before.before in
-    let a = s.args in
-    let e = is_back a.axis a.b s.requires.1.0.0 s.requires.1.0.1 in
+    let a = c.args in
+    let e = is_back a.axis a.b c.requires.up_value.0 c.requires.up_value.1 in
     let whole = gathered_snoc a.b a.src.now a.from [] (back_of a.axis.length a.b) in
-    (refl, progress_start a.out.now a.at _ _ (rw (e, whole) at s.requires.1.1.1))
+    (refl, progress_start a.out.now a.at _ _ (rw (e, whole) at c.requires.axis_in_bounds))
 
 pub overflow_sub-left-in-loop-j : goal.overflow_sub-left-in-loop-j
 overflow_sub-left-in-loop-j c =
     let v = c.loop-j in
-    let s = c.before.before.before.before.before.before in
-    let a = s.args in
-    let e = is_back a.axis a.b s.requires.1.0.0 s.requires.1.0.1 in
+    let a = c.args in
+    let e = is_back a.axis a.b c.requires.up_value.0 c.requires.up_value.1 in
     let less = c.lesser-m in
-    let f = cut_back a.b (length a.src.now) a.from a.axis.length v.j less.result s.requires.0.0 s.requires.0.1
-    (rw e at s.requires.1.1.0)
+    let f = cut_back a.b (length a.src.now) a.from a.axis.length v.j less.result c.requires.le_b.0 c.requires.le_b.1
+    (rw e at c.requires.inside)
     (omega arith)
     (omega (arith, less.ensures)) in
     omega (arith, f.till)
@@ -39,12 +37,11 @@ overflow_sub-left-in-loop-j c =
 pub overflow_mul-b : goal.overflow_mul-b
 overflow_mul-b c =
     let v = c.loop-j in
-    let s = c.before.before.before.before.before.before in
-    let a = s.args in
-    let e = is_back a.axis a.b s.requires.1.0.0 s.requires.1.0.1 in
+    let a = c.args in
+    let e = is_back a.axis a.b c.requires.up_value.0 c.requires.up_value.1 in
     let less = c.lesser-m in
-    let f = cut_back a.b (length a.src.now) a.from a.axis.length v.j less.result s.requires.0.0 s.requires.0.1
-    (rw e at s.requires.1.1.0)
+    let f = cut_back a.b (length a.src.now) a.from a.axis.length v.j less.result c.requires.le_b.0 c.requires.le_b.1
+    (rw e at c.requires.inside)
     (omega arith)
     (omega (arith, less.ensures)) in
     omega (arith, inside_from _ _ _ _ f.inside)
@@ -52,12 +49,11 @@ overflow_mul-b c =
 pub overflow_add-from : goal.overflow_add-from
 overflow_add-from c =
     let v = c.loop-j in
-    let s = c.before.before.before.before.before.before in
-    let a = s.args in
-    let e = is_back a.axis a.b s.requires.1.0.0 s.requires.1.0.1 in
+    let a = c.args in
+    let e = is_back a.axis a.b c.requires.up_value.0 c.requires.up_value.1 in
     let less = c.lesser-m in
-    let f = cut_back a.b (length a.src.now) a.from a.axis.length v.j less.result s.requires.0.0 s.requires.0.1
-    (rw e at s.requires.1.1.0)
+    let f = cut_back a.b (length a.src.now) a.from a.axis.length v.j less.result c.requires.le_b.0 c.requires.le_b.1
+    (rw e at c.requires.inside)
     (omega arith)
     (omega (arith, less.ensures)) in
     omega (arith, inside_from _ _ _ _ f.inside)
@@ -65,12 +61,11 @@ overflow_add-from c =
 pub line_back-to-requires : goal.line_back-to-requires
 line_back-to-requires c =
     let v = c.loop-j in
-    let s = c.before.before.before.before.before.before in
-    let a = s.args in
-    let e = is_back a.axis a.b s.requires.1.0.0 s.requires.1.0.1 in
+    let a = c.args in
+    let e = is_back a.axis a.b c.requires.up_value.0 c.requires.up_value.1 in
     let less = c.lesser-m in
-    let f = cut_back a.b (length a.src.now) a.from a.axis.length v.j less.result s.requires.0.0 s.requires.0.1
-    (rw e at s.requires.1.1.0)
+    let f = cut_back a.b (length a.src.now) a.from a.axis.length v.j less.result c.requires.le_b.0 c.requires.le_b.1
+    (rw e at c.requires.inside)
     (omega arith)
     (omega (arith, less.ensures)) in
     let m = less.result in
@@ -79,17 +74,16 @@ line_back-to-requires c =
     ∙ series_same _ (λ i. gathered a.b a.src.now (a.from + reach (back_of a.axis.length a.b) (v.j + i)) []) m
     (λ i h. ap (λ (p : ℕ). gathered a.b a.src.now p []) (f.place i h)) in
     let room = progress_room_for _ _ _ _ _ _ _ v.invariant.1 m f.till _ part in
-    ((omega (arith, s.requires.0.1), f.line), ((refl, refl), (f.inside, room)))
+    record { b_bound = (omega (arith, c.requires.le_b.1), f.line); up_value = (refl, refl); inside = f.inside; axis_in_bounds = room }
 
 pub overflow_add-j : goal.overflow_add-j
 overflow_add-j c =
     let v = c.loop-j in
-    let s = c.before.before.before.before.before.before.before.before.before in
-    let a = s.args in
-    let e = is_back a.axis a.b s.requires.1.0.0 s.requires.1.0.1 in
+    let a = c.args in
+    let e = is_back a.axis a.b c.requires.up_value.0 c.requires.up_value.1 in
     let less = c.lesser-m in
-    let f = cut_back a.b (length a.src.now) a.from a.axis.length v.j less.result s.requires.0.0 s.requires.0.1
-    (rw e at s.requires.1.1.0)
+    let f = cut_back a.b (length a.src.now) a.from a.axis.length v.j less.result c.requires.le_b.0 c.requires.le_b.1
+    (rw e at c.requires.inside)
     (omega arith)
     (omega (arith, less.ensures)) in
     omega (arith, f.till)
@@ -97,12 +91,11 @@ overflow_add-j c =
 pub loop-j-smaller : goal.loop-j-smaller
 loop-j-smaller c =
     let v = c.loop-j in
-    let s = c.before.before.before.before.before.before.before.before.before in
-    let a = s.args in
-    let e = is_back a.axis a.b s.requires.1.0.0 s.requires.1.0.1 in
+    let a = c.args in
+    let e = is_back a.axis a.b c.requires.up_value.0 c.requires.up_value.1 in
     let less = c.lesser-m in
-    let f = cut_back a.b (length a.src.now) a.from a.axis.length v.j less.result s.requires.0.0 s.requires.0.1
-    (rw e at s.requires.1.1.0)
+    let f = cut_back a.b (length a.src.now) a.from a.axis.length v.j less.result c.requires.le_b.0 c.requires.le_b.1
+    (rw e at c.requires.inside)
     (omega arith)
     (omega (arith, less.ensures)) in
     omega (arith, f.some, f.till)
@@ -110,12 +103,11 @@ loop-j-smaller c =
 pub loop-j-preserved : goal.loop-j-preserved
 loop-j-preserved c =
     let v = c.loop-j in
-    let s = c.before.before.before.before.before.before.before.before.before in
-    let a = s.args in
-    let e = is_back a.axis a.b s.requires.1.0.0 s.requires.1.0.1 in
+    let a = c.args in
+    let e = is_back a.axis a.b c.requires.up_value.0 c.requires.up_value.1 in
     let less = c.lesser-m in
-    let f = cut_back a.b (length a.src.now) a.from a.axis.length v.j less.result s.requires.0.0 s.requires.0.1
-    (rw e at s.requires.1.1.0)
+    let f = cut_back a.b (length a.src.now) a.from a.axis.length v.j less.result c.requires.le_b.0 c.requires.le_b.1
+    (rw e at c.requires.inside)
     (omega arith)
     (omega (arith, less.ensures)) in
     let m = less.result in
@@ -129,8 +121,7 @@ loop-j-preserved c =
 pub returns : goal.returns
 returns c =
     let v = c.loop-j in
-    let s = c.before.before.before.before in
-    let a = s.args in
-    let e = is_back a.axis a.b s.requires.1.0.0 s.requires.1.0.1 in
+    let a = c.args in
+    let e = is_back a.axis a.b c.requires.up_value.0 c.requires.up_value.1 in
     let whole = gathered_snoc a.b a.src.now a.from [] (back_of a.axis.length a.b) in
     rw (e, whole) (progress_done _ _ _ _ _ _ _ v.invariant.1 (omega arith))

@@ -7,12 +7,10 @@ use Rattle.gather_row.proofs.copy_voxel.Goals as goal
 
 pub returns : goal.returns
 returns c =
-    let back = c.before.before in
-    let out = back.before.before.before.before.before in
-    let a = out.args in
+    let a = c.args in
     by_way_of a.src.now _ _ a.out.now _ a.from a.to a.b (a.from + a.b - a.from) (a.b - 0)
     (omega arith)
     (omega arith)
     (omega arith)
-    out.copy_in.ensures
-    back.copy_in-2.ensures
+    c.copy_in.ensures
+    c.copy_in-2.ensures

@@ -11,29 +11,26 @@ use Rattle.gather_row.proofs.line_back.Goals as goal
 
 pub overflow_add-end : goal.overflow_add-end
 overflow_add-end c =
-    let s = c.before.before.before in
-    let a = s.args in
-    let way = downwards s.requires.1.0.0 s.requires.1.0.1 in
-    let whole = inside_whole a.b a.axis way (length a.src.now) a.from s.requires.1.1.0 in
+    let a = c.args in
+    let way = downwards c.requires.up_value.0 c.requires.up_value.1 in
+    let whole = inside_whole a.b a.axis way (length a.src.now) a.from c.requires.inside in
     omega arith
 
 pub one_by_one-requires : goal.one_by_one-requires
 one_by_one-requires c =
-    let s = c.before.before.before.before.before.before.before.before.before in
-    let a = s.args in
-    let way = downwards s.requires.1.0.0 s.requires.1.0.1 in
-    let some = inside_some a.b (length a.src.now) a.from a.axis s.requires.1.1.0 in
+    let a = c.args in
+    let way = downwards c.requires.up_value.0 c.requires.up_value.1 in
+    let some = inside_some a.b (length a.src.now) a.from a.axis c.requires.inside in
     let n : a.from + a.axis.length * a.b - a.from ≡ a.axis.length * a.b = omega arith in
     let copied = c.copy_in.ensures in
-    let same = gathered_copy a.b a.axis way a.src.now _ _ a.from _ s.requires.1.1.0 n copied in
-    (s.requires.0.0, (inside_copy a.b a.axis way _ some (omega arith), rw same s.requires.1.1.1))
+    let same = gathered_copy a.b a.axis way a.src.now _ _ a.from _ c.requires.inside n copied in
+    record { b_bound = c.requires.b_bound.0; inside = inside_copy a.b a.axis way _ some (omega arith); axis_in_bounds = rw same c.requires.axis_in_bounds }
 
 pub returns : goal.returns
 returns c =
-    let s = c.before.before.before.before.before.before.before.before.before.before.before.before in
-    let a = s.args in
-    let way = downwards s.requires.1.0.0 s.requires.1.0.1 in
+    let a = c.args in
+    let way = downwards c.requires.up_value.0 c.requires.up_value.1 in
     let n : a.from + a.axis.length * a.b - a.from ≡ a.axis.length * a.b = omega arith in
     let copied = c.copy_in.ensures in
-    let same = gathered_copy a.b a.axis way a.src.now _ _ a.from _ s.requires.1.1.0 n copied in
+    let same = gathered_copy a.b a.axis way a.src.now _ _ a.from _ c.requires.inside n copied in
     rw same at c.one_by_one.ensures

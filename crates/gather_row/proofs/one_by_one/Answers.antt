@@ -12,61 +12,54 @@ use Rattle.gather_row.proofs.one_by_one.Goals as goal
 
 pub overflow_sub-last : goal.overflow_sub-last
 overflow_sub-last c =
-    let s = c.before.before.before in
-    let a = s.args in
-    let some = inside_some a.b (length a.src.now) a.from a.axis s.requires.1.0 in
+    let a = c.args in
+    let some = inside_some a.b (length a.src.now) a.from a.axis c.requires.inside in
     omega arith
 
 pub place_of-place-requires : goal.place_of-place-requires
 place_of-place-requires c =
-    let s = c.before.before.before in
-    let a = s.args in
-    let some = inside_some a.b (length a.src.now) a.from a.axis s.requires.1.0 in
-    let fit = inside_line a.b (length a.src.now) a.from a.axis 0 s.requires.1.0 some in
-    (omega arith, omega arith)
+    let a = c.args in
+    let some = inside_some a.b (length a.src.now) a.from a.axis c.requires.inside in
+    let fit = inside_line a.b (length a.src.now) a.from a.axis 0 c.requires.inside some in
+    record { j_lt_length = omega arith; j_bound = omega arith }
 
 pub loop-j-init : goal.loop-j-init
 loop-j-init c =
-    let s = c.before.before.before.before in
-    let a = s.args in
-    let some = inside_some a.b (length a.src.now) a.from a.axis s.requires.1.0 in
+    let a = c.args in
+    let some = inside_some a.b (length a.src.now) a.from a.axis c.requires.inside in
     let whole = gathered_snoc a.b a.src.now a.from [] a.axis in
-    let start = progress_start a.out.now a.at _ _ (rw whole at s.requires.1.1) in
+    let start = progress_start a.out.now a.at _ _ (rw whole at c.requires.axis_in_bounds) in
     (omega arith, omega arith, c.place_of-place.ensures.0, start)
 
 pub copy_voxel-requires : goal.copy_voxel-requires
 copy_voxel-requires c =
     let v = c.loop-j in
-    let s = c.before.before.before.before.before.before.before in
-    let a = s.args in
-    let fit = inside_line a.b (length a.src.now) a.from a.axis v.j s.requires.1.0 (omega arith) in
+    let a = c.args in
+    let fit = inside_line a.b (length a.src.now) a.from a.axis v.j c.requires.inside (omega arith) in
     let one = length_none a.b a.src.now (a.from + reach a.axis v.j) fit in
     let room = progress_room _ _ _ _ _ _ _ v.invariant.3 (omega arith) in
-    (s.requires.0, (omega (arith, v.invariant.2), omega arith))
+    (c.requires.b_bound, (omega (arith, v.invariant.2), omega arith))
 
 pub overflow_sub-place : goal.overflow_sub-place
 overflow_sub-place c =
     let v = c.loop-j in
-    let s = c.before.before.before.before.before.before.before.before.before.before.before in
-    let a = s.args in
+    let a = c.args in
     let next = reach_next a.axis v.j (omega arith) in
     omega (arith, v.invariant.2)
 
 pub overflow_add-place : goal.overflow_add-place
 overflow_add-place c =
     let v = c.loop-j in
-    let s = c.before.before.before.before.before.before.before.before.before.before.before.before in
-    let a = s.args in
+    let a = c.args in
     let next = reach_next a.axis v.j (omega arith) in
-    let fit = inside_line a.b (length a.src.now) a.from a.axis (v.j + 1) s.requires.1.0 (omega arith) in
+    let fit = inside_line a.b (length a.src.now) a.from a.axis (v.j + 1) c.requires.inside (omega arith) in
     omega (arith, v.invariant.2)
 
 pub overflow_add-to : goal.overflow_add-to
 overflow_add-to c =
     let v = c.loop-j in
-    let s = c.before.before.before.before.before.before.before.before.before.before.before.before in
-    let a = s.args in
-    let fit = inside_line a.b (length a.src.now) a.from a.axis v.j s.requires.1.0 (omega arith) in
+    let a = c.args in
+    let fit = inside_line a.b (length a.src.now) a.from a.axis v.j c.requires.inside (omega arith) in
     let one = length_none a.b a.src.now (a.from + reach a.axis v.j) fit in
     let room = progress_room _ _ _ _ _ _ _ v.invariant.3 (omega arith) in
     omega arith
@@ -74,10 +67,9 @@ overflow_add-to c =
 pub loop-j-preserved : goal.loop-j-preserved
 loop-j-preserved c =
     let v = c.loop-j in
-    let s = c.before.before.before.before.before.before.before.before.before.before.before.before in
-    let a = s.args in
+    let a = c.args in
     let next = reach_next a.axis v.j (omega arith) in
-    let fit = inside_line a.b (length a.src.now) a.from a.axis v.j s.requires.1.0 (omega arith) in
+    let fit = inside_line a.b (length a.src.now) a.from a.axis v.j c.requires.inside (omega arith) in
     let one = length_none a.b a.src.now (a.from + reach a.axis v.j) fit in
     let place = ap (λ (i : ℕ). take a.b (drop i a.src.now)) v.invariant.2 in
     let part = place ∙ sym (gathered_none a.b a.src.now (a.from + reach a.axis v.j)) in
@@ -88,19 +80,17 @@ loop-j-preserved c =
 pub copy_voxel-requires-2 : goal.copy_voxel-requires-2
 copy_voxel-requires-2 c =
     let v = c.loop-j in
-    let s = c.before.before.before.before.before.before.before in
-    let a = s.args in
-    let fit = inside_line a.b (length a.src.now) a.from a.axis v.j s.requires.1.0 (omega arith) in
+    let a = c.args in
+    let fit = inside_line a.b (length a.src.now) a.from a.axis v.j c.requires.inside (omega arith) in
     let one = length_none a.b a.src.now (a.from + reach a.axis v.j) fit in
     let room = progress_room _ _ _ _ _ _ _ v.invariant.3 (omega arith) in
-    (s.requires.0, (omega (arith, v.invariant.2), omega arith))
+    (c.requires.b_bound, (omega (arith, v.invariant.2), omega arith))
 
 pub overflow_add-result : goal.overflow_add-result
 overflow_add-result c =
     let v = c.loop-j in
-    let s = c.before.before.before.before.before.before.before.before.before.before in
-    let a = s.args in
-    let fit = inside_line a.b (length a.src.now) a.from a.axis v.j s.requires.1.0 (omega arith) in
+    let a = c.args in
+    let fit = inside_line a.b (length a.src.now) a.from a.axis v.j c.requires.inside (omega arith) in
     let one = length_none a.b a.src.now (a.from + reach a.axis v.j) fit in
     let room = progress_room _ _ _ _ _ _ _ v.invariant.3 (omega arith) in
     omega arith
@@ -108,9 +98,8 @@ overflow_add-result c =
 pub returns : goal.returns
 returns c =
     let v = c.loop-j in
-    let s = c.before.before.before.before.before.before.before.before.before.before in
-    let a = s.args in
-    let fit = inside_line a.b (length a.src.now) a.from a.axis v.j s.requires.1.0 (omega arith) in
+    let a = c.args in
+    let fit = inside_line a.b (length a.src.now) a.from a.axis v.j c.requires.inside (omega arith) in
     let one = length_none a.b a.src.now (a.from + reach a.axis v.j) fit in
     let place = ap (λ (i : ℕ). take a.b (drop i a.src.now)) v.invariant.2 in
     let part = place ∙ sym (gathered_none a.b a.src.now (a.from + reach a.axis v.j)) in

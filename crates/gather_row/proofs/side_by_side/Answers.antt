@@ -7,30 +7,26 @@ use Rattle.gather_row.proofs.side_by_side.Goals as goal
 
 pub overflow_mul-n : goal.overflow_mul-n
 overflow_mul-n c =
-    let s = c.before.before.before in
-    let a = s.args in
-    let fit = inside_side a.b a.from a.axis s.requires.0.0 s.requires.0.1 (length a.src.now) s.requires.1.0 in
+    let a = c.args in
+    let fit = inside_side a.b a.from a.axis c.requires.up_value.0 c.requires.up_value.1 (length a.src.now) c.requires.inside in
     omega arith
 
 pub copy_run-requires : goal.copy_run-requires
 copy_run-requires c =
-    let s = c.before.before.before.before in
-    let a = s.args in
-    let fit = inside_side a.b a.from a.axis s.requires.0.0 s.requires.0.1 (length a.src.now) s.requires.1.0 in
-    let len = length-row a.b a.src.now a.from a.axis s.requires.1.0 in
+    let a = c.args in
+    let fit = inside_side a.b a.from a.axis c.requires.up_value.0 c.requires.up_value.1 (length a.src.now) c.requires.inside in
+    let len = length-row a.b a.src.now a.from a.axis c.requires.inside in
     (omega arith, omega arith)
 
 pub overflow_add-result : goal.overflow_add-result
 overflow_add-result c =
-    let s = c.before.before.before.before.before.before.before in
-    let a = s.args in
-    let len = length-row a.b a.src.now a.from a.axis s.requires.1.0 in
+    let a = c.args in
+    let len = length-row a.b a.src.now a.from a.axis c.requires.inside in
     omega arith
 
 pub returns : goal.returns
 returns c =
-    let s = c.before.before.before.before.before.before.before in
-    let a = s.args in
-    let len = length-row a.b a.src.now a.from a.axis s.requires.1.0 in
-    let whole = gathered_side a.b a.from a.axis s.requires.0.0 s.requires.0.1 a.src.now in
+    let a = c.args in
+    let len = length-row a.b a.src.now a.from a.axis c.requires.inside in
+    let whole = gathered_side a.b a.from a.axis c.requires.up_value.0 c.requires.up_value.1 a.src.now in
     (rw whole c.copy_run.ensures, omega arith)

@@ -18,26 +18,23 @@ loop-i-init c = (omega arith, refl)
 
 pub returns-then-axis_length-lt1 : goal.returns-then-axis_length-lt1
 returns-then-axis_length-lt1 c =
-    let lo = c.before.before.before in
-    let dim = lo.args.dim.now in
-    let i = lo.loop-i.i in
+    let dim = c.args.dim.now in
+    let i = c.loop-i.i in
     let e = rw add-one at c.axis_length.ensures.0 in
     let d = dim_at dim (suc i) in
     let here : below_one d ≡ true = below_natural d ∙ lt-ltb (natural_of d) 1 (omega arith) in
-    add-one i ∙ sym (first_stays dim (suc i) lo.args.n i (omega arith) (first_found dim i lo.loop-i.invariant.1 here))
+    add-one i ∙ sym (first_stays dim (suc i) c.args.n i (omega arith) (first_found dim i c.loop-i.invariant.1 here))
 
 pub loop-i-preserved : goal.loop-i-preserved
 loop-i-preserved c =
-    let lo = c.before.before.before in
-    let dim = lo.args.dim.now in
-    let i = lo.loop-i.i in
+    let dim = c.args.dim.now in
+    let i = c.loop-i.i in
     let e = rw add-one at c.axis_length.ensures.0 in
     let d = dim_at dim (suc i) in
     let here : below_one d ≡ false = below_natural d ∙ le-ltb (natural_of d) 1 (omega arith) in
-    (omega arith, rw add-one (first_passed dim i lo.loop-i.invariant.1 here))
+    (omega arith, rw add-one (first_passed dim i c.loop-i.invariant.1 here))
 
 pub returns : goal.returns
 returns c =
-    let lo = c.before in
-    let end : lo.loop-i.i ≡ lo.args.n = omega arith in
-    sym (rw end at lo.loop-i.invariant.1)
+    let end : c.loop-i.i ≡ c.args.n = omega arith in
+    sym (rw end at c.loop-i.invariant.1)

@@ -23,16 +23,14 @@ overflow_mul-product c =
 
 pub loop-axis-preserved : goal.loop-axis-preserved
 loop-axis-preserved c =
-    let lo = c.before.before.before in
-    let a = lo.args in
-    let m : ℕ = image_bytes a.dim.now lo.loop-axis.axis a.bytes in
-    let e : ℕ = natural_of (dim_at a.dim.now (suc lo.loop-axis.axis)) in
-    let kept : c.limited-kept.result ≡ capped m = c.limited-kept.ensures ∙ lo.loop-axis.invariant.1 in
-    let next = image_next a.dim.now lo.loop-axis.axis a.bytes in
-    (omega arith, rw (kept, c.axis_length.ensures.0, add-one lo.loop-axis.axis, next) (capped_times m e))
+    let a = c.args in
+    let m : ℕ = image_bytes a.dim.now c.loop-axis.axis a.bytes in
+    let e : ℕ = natural_of (dim_at a.dim.now (suc c.loop-axis.axis)) in
+    let kept : c.limited-kept.result ≡ capped m = c.limited-kept.ensures ∙ c.loop-axis.invariant.1 in
+    let next = image_next a.dim.now c.loop-axis.axis a.bytes in
+    (omega arith, rw (kept, c.axis_length.ensures.0, add-one c.loop-axis.axis, next) (capped_times m e))
 
 pub returns : goal.returns
 returns c =
-    let lo = c.before.before in
-    let end : lo.loop-axis.axis ≡ lo.args.n = omega arith in
-    c.limited.ensures ∙ rw end at lo.loop-axis.invariant.1
+    let end : c.loop-axis.axis ≡ c.args.n = omega arith in
+    c.limited.ensures ∙ rw end at c.loop-axis.invariant.1

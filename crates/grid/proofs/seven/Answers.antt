@@ -14,12 +14,10 @@ loop-k-init c = (omega arith, refl)
 
 pub loop-k-preserved : goal.loop-k-preserved
 loop-k-preserved c =
-    let lo = c.before.before in
-    let a = lo.args in
-    (omega arith, rw (lo.loop-k.invariant.1, c.axis_length.ensures.0, add-one lo.loop-k.k) (seven_next a.dim.now lo.loop-k.k (omega arith)))
+    let a = c.args in
+    (omega arith, rw (c.loop-k.invariant.1, c.axis_length.ensures.0, add-one c.loop-k.k) (seven_next a.dim.now c.loop-k.k (omega arith)))
 
 pub returns : goal.returns
 returns c =
-    let lo = c.before in
-    let end : lo.loop-k.k ≡ lo.args.n = omega arith in
-    rw (← end) lo.loop-k.invariant.1
+    let end : c.loop-k.k ≡ c.args.n = omega arith in
+    rw (← end) c.loop-k.invariant.1

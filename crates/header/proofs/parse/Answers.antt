@@ -9,8 +9,7 @@ use Rattle.header.proofs.parse.Goals as goal
 
 pub returns : goal.returns
 returns c =
-    let copied = c.before.before.before in
-    let a = copied.args in
+    let a = c.args in
     c.parse_front.ensures
-    ∙ ap (λ (l : List ℕ). header_of a.order a.kind a.count a.spans l) copied.copy_out.ensures
+    ∙ ap (λ (l : List ℕ). header_of a.order a.kind a.count a.spans l) c.copy_out.ensures
     ∙ header_front a.order a.kind a.count a.spans a.file.now

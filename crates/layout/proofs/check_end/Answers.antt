@@ -11,11 +11,9 @@ returns-then-cut_short c = rw (sym c.cut_short.ensures ∙ c.if-cut_short.true)
 pub returns-then-cut_extender : goal.returns-then-cut_extender
 unfolding verdict
 returns-then-cut_extender c =
-    let x = c.before in
-    simp (sym x.cut_short.ensures ∙ x.if-cut_short.false, sym x.cut_extender.ensures ∙ c.if-cut_extender.true)
+    simp (sym c.cut_short.ensures ∙ c.if-cut_short.false, sym c.cut_extender.ensures ∙ c.if-cut_extender.true)
 
 pub returns : goal.returns
 unfolding verdict
 returns c =
-    let x = c.before in
-    simp (sym x.cut_short.ensures ∙ x.if-cut_short.false, sym x.cut_extender.ensures ∙ c.if-cut_extender.false)
+    simp (sym c.cut_short.ensures ∙ c.if-cut_short.false, sym c.cut_extender.ensures ∙ c.if-cut_extender.false)

@@ -6,12 +6,10 @@ use Rattle.layout.proofs.check_in.Goals as goal
 
 pub check_fields-requires : goal.check_fields-requires
 check_fields-requires c =
-    let r = c.before in
-    (r.requires, sym r.start_in-start.ensures ∙ c.in-Read.is)
+    (c.requires, sym c.start_in-start.ensures ∙ c.in-Read.is)
 
 pub returns-in-Unread : goal.returns-in-Unread
 returns-in-Unread c =
-    let r = c.before in
-    let a = r.args in
+    let a = c.args in
     let t = c.start-1.given in
-    checks_start a.file.now a.len t.0.0 (sym r.start_in-start.ensures ∙ t.1)
+    checks_start a.file.now a.len t.0.0 (sym c.start_in-start.ensures ∙ t.1)

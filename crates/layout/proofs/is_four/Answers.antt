@@ -10,9 +10,8 @@ use Rattle.layout.proofs.is_four.Goals as goal
 
 pub returns : goal.returns
 returns c =
-    let S = c.before.before.before in
-    let a = S.args in
+    let a = c.args in
     let byte : (i : ℕ) → get_or a.file.now i 0 < 256 = λ i. (c.shared_slice_known-1.given i).fits in
     let these : Bytes (a.a ∷ a.b ∷ a.c ∷ a.d ∷ []) =
-    one S.ranges.a.fits (one S.ranges.b.fits (one S.ranges.c.fits (one S.ranges.d.fits none))) in
+    one c.ranges.a.fits (one c.ranges.b.fits (one c.ranges.c.fits (one c.ranges.d.fits none))) in
     rw (c.word_at.ensures, c.word_of.ensures) (same_word a.file.now byte a.at these refl)

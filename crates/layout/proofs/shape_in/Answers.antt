@@ -9,12 +9,10 @@ use Rattle.layout.proofs.shape_in.Goals as goal
 pub returns : goal.returns
 unfolding shape_in
 returns c =
-    let b = c.before in
-    let d = b.before in
     λ i. record {
-      kind = d.args.kind;
-      dim = d.dims.ensures i;
-      datatype = (to_z-of_z w16 d.read_i16.result (record { sfits = d.read_i16.type_inv }) ∙ d.read_i16.ensures) i;
-      bitpix = (to_z-of_z w16 b.read_i16-2.result (record { sfits = b.read_i16-2.type_inv }) ∙ b.read_i16-2.ensures) i;
+      kind = c.args.kind;
+      dim = c.dims.ensures i;
+      datatype = (to_z-of_z w16 c.read_i16.result (record { sfits = c.read_i16.type_inv }) ∙ c.read_i16.ensures) i;
+      bitpix = (to_z-of_z w16 c.read_i16-2.result (record { sfits = c.read_i16-2.type_inv }) ∙ c.read_i16-2.ensures) i;
       vox_offset = c.read_u32.ensures i;
     }

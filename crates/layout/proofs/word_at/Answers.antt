@@ -11,16 +11,13 @@ use Rattle.layout.proofs.word_at.Goals as goal
 pub returns : goal.returns
 unfolding u32_at
 returns c =
-    let z = c.before.before in
-    let y = z.before in
-    let x = y.before in
-    let a = x.args in
+    let a = c.args in
     let from : a.at ≡ a.at + 0 = omega arith in
     c.word_of.ensures
     ∙ (λ i.
     little_value
-    ((x.byte_at-a.ensures ∙ (λ j. get_or a.file.now (from j) 0)) i
-    ∷ y.byte_at-b.ensures i
-    ∷ z.byte_at-c.ensures i
+    ((c.byte_at-a.ensures ∙ (λ j. get_or a.file.now (from j) 0)) i
+    ∷ c.byte_at-b.ensures i
+    ∷ c.byte_at-c.ensures i
     ∷ c.byte_at-d.ensures i
     ∷ []))

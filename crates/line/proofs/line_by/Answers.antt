@@ -9,7 +9,6 @@ line_shown-requires c = sym c.outline_of-outlined.ensures ∙ c.in-Shown.is
 
 pub returns-in-Hidden : goal.returns-in-Hidden
 returns-in-Hidden c =
-    let o = c.before in
-    let a = o.args in
+    let a = c.args in
     lines_hidden a.file.now a.image.now a.axis a.index a.out.now _
-    (sym o.outline_of-outlined.ensures ∙ c.in-Hidden.is)
+    (sym c.outline_of-outlined.ensures ∙ c.in-Hidden.is)

@@ -8,18 +8,14 @@ use Rattle.line.proofs.line_in.Goals as goal
 
 pub returns-in-Refused : goal.returns-in-Refused
 returns-in-Refused c =
-    let o = c.before.before.before in
-    let d = o.before in
-    let a = d.args in
-    let t = o.offset-1.given in
+    let a = c.args in
+    let t = c.offset-1.given in
     rw (← c.misplaced.ensures) at (record_refused a.header a.file.now a.image.now a.axis a.index a.out.now t.0.0
-    (sym d.decode-offset.ensures ∙ t.1))
+    (sym c.decode-offset.ensures ∙ t.1))
 
 pub returns-in_default : goal.returns-in_default
 returns-in_default c =
-    let w = c.before.before.before.before in
-    let d = w.before.before in
-    let a = d.args in
-    record_copies a.header a.file.now a.image.now a.axis a.index a.out.now d.decode-offset.result (sym d.decode-offset.ensures)
-    (λ r e. ⊎_elim (λ k. omega arith) (λ k. omega arith) (rw e at w.in_default.in_default-own.keys2)) _ _
-    (rw w.whole_in.ensures at c.line_at.ensures)
+    let a = c.args in
+    record_copies a.header a.file.now a.image.now a.axis a.index a.out.now c.decode-offset.result (sym c.decode-offset.ensures)
+    (λ r e. ⊎_elim (λ k. omega arith) (λ k. omega arith) (rw e at c.in_default.in_default-own.keys2)) _ _
+    (rw c.whole_in.ensures at c.line_at.ensures)

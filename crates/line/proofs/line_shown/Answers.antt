@@ -15,46 +15,29 @@ use Rattle.line.proofs.line_shown.Goals as goal
 
 pub dims-dim-requires : goal.dims-dim-requires
 dims-dim-requires c =
-    let S = c.before.before.before.before.before in
-    omega (arith, shown_long S.args.file.now 0 S.args.outline S.requires)
+    omega (arith, shown_long c.args.file.now 0 c.args.outline c.requires)
 
 pub read_i16-bitpix-requires : goal.read_i16-bitpix-requires
 read_i16-bitpix-requires c =
-    let S = c.before.before.before.before.before.before in
-    omega (arith, shown_long S.args.file.now 0 S.args.outline S.requires)
-
--- where the function began, and the fields there
-abbrev begin : goal.After-read_i16-bitpix → goal.Start
-begin c = c.before.before.before.before.before.before.before
-
-abbrev read : goal.After-read_i16-bitpix → Shape
-read c = let S = begin c in shown.fields S.args.file.now S.args.outline S.pre
-
-dims-are : (c : goal.After-read_i16-bitpix) → c.dims-dim.result ≡ (read c).dim
-unfolding shape_in
-dims-are c = c.dims-dim.ensures
-
-bitpix-is : (c : goal.After-read_i16-bitpix) → to_z w16 (of_z w16 c.read_i16-bitpix.result) ≡ (read c).bitpix
-unfolding shape_in
-bitpix-is c = to_z-of_z w16 c.read_i16-bitpix.result (record { sfits = c.read_i16-bitpix.type_inv }) ∙ c.read_i16-bitpix.ensures
+    omega (arith, shown_long c.args.file.now 0 c.args.outline c.requires)
 
 pub sizes_in-requires : goal.sizes_in-requires
+unfolding shape_in
 sizes_in-requires c =
-    let S = begin c in
-    rw (dims-are c, bitpix-is c) (shown_measured S.args.file.now 0 S.args.outline S.requires).small
-
-sizes-are : (c : goal.After-sizes_in) → let S = begin c.before in
-    c.sizes_in.result ≡ (shown.volume S.args.file.now S.args.outline S.requires).sizes
-sizes-are c = rw (dims-are c.before, bitpix-is c.before) at c.sizes_in.ensures
+    let read = shown.fields c.args.file.now c.args.outline c.requires in
+    let dims-are : c.dims-dim.result ≡ read.dim = c.dims-dim.ensures in
+    let bitpix-is : to_z w16 (of_z w16 c.read_i16-bitpix.result) ≡ read.bitpix = to_z-of_z w16 c.read_i16-bitpix.result (record { sfits = c.read_i16-bitpix.type_inv }) ∙ c.read_i16-bitpix.ensures in
+    rw (dims-are, bitpix-is) (shown_measured c.args.file.now 0 c.args.outline c.requires).small
 
 pub returns : goal.returns
 unfolding shape_in
 returns c =
-    let z = c.before.before.before.before in
-    let f = z.before in
-    let S = begin f in
-    let a = S.args in
-    let offset = ap (λ (i : Image). i.offset) (sym (shown.shown-image a.file.now a.outline S.requires)) in
-    lines_shown a.file.now a.image.now a.axis a.index a.out.now a.outline S.requires _
-    (λ i. record { dim = dims-are f i; offset = offset i; sizes = sizes-are z i; kind = a.outline.layout.kind }) _ _
+    let read = shown.fields c.args.file.now c.args.outline c.requires in
+    let dims-are : c.dims-dim.result ≡ read.dim = c.dims-dim.ensures in
+    let bitpix-is : to_z w16 (of_z w16 c.read_i16-bitpix.result) ≡ read.bitpix = to_z-of_z w16 c.read_i16-bitpix.result (record { sfits = c.read_i16-bitpix.type_inv }) ∙ c.read_i16-bitpix.ensures in
+    let sizes-are : c.sizes_in.result ≡ (shown.volume c.args.file.now c.args.outline c.requires).sizes = rw (dims-are, bitpix-is) at c.sizes_in.ensures in
+    let a = c.args in
+    let offset = ap (λ (i : Image). i.offset) (sym (shown.shown-image a.file.now a.outline c.requires)) in
+    lines_shown a.file.now a.image.now a.axis a.index a.out.now a.outline c.requires _
+    (λ i. record { dim = dims-are i; offset = offset i; sizes = sizes-are i; kind = a.outline.layout.kind }) _ _
     c.line_at.ensures

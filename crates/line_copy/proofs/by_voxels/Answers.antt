@@ -13,18 +13,25 @@ use Rattle.line_plan.specs.Line.{with_number, count_along}
 use Rattle.line_copy.proofs.Engines.{part_holds, line_room, line_series}
 use Rattle.line_copy.proofs.by_voxels.Goals as goal
 
+-- where the function began
+abbrev from : tie.In-loop invariant-loop decreases-loop → tie.Start invariant-loop decreases-loop
+from c = c.before.before.before.before.before.before.before.before.before
+
+-- the turn of the loop, and the voxel that is located in it
+abbrev turn : tie.After-locate-at invariant-loop decreases-loop → tie.In-loop invariant-loop decreases-loop
+turn c = c.before.before.before.before
+
+located-is : (c : tie.After-locate-at invariant-loop decreases-loop) → let a = (from (turn c)).args in c.locate_at.result ≡ stepped_by a.v a.image (with_number a.axis a.index (turn c).before.loop.k)
+unfolding with_number
+located-is c = c.locate_at.ensures
+
 pub loop-k-init : goal.loop-k-init
 loop-k-init c =
-    let S = c.before.before.before.before.before.before.before in
-    let a = S.args in
+    let a = c.args in
     let count = c.axis_length-count.ensures.0 in
-    let line = line_series a.v a.src.now a.image a.axis a.index (length a.out.now) S.requires c.axis_length-count.result count in
-    let room = line_room a.v a.src.now a.image a.axis a.index (length a.out.now) S.requires in
+    let line = line_series a.v a.src.now a.image a.axis a.index (length a.out.now) c.requires c.axis_length-count.result count in
+    let room = line_room a.v a.src.now a.image a.axis a.index (length a.out.now) c.requires in
     (count, progress_start a.out.now 0 _ c.axis_length-count.result (omega (arith, room, ap length line)))
-
--- where the function began
-abbrev from : goal.In-loop-k invariant-loop decreases-loop → goal.Start invariant-loop decreases-loop
-from c = c.before.before.before.before.before.before.before.before.before
 
 pub overflow_sub-at : goal.overflow_sub-at
 overflow_sub-at c = (from c).requires.first
@@ -37,40 +44,26 @@ bounds-at-axis c = omega (arith, (from c).requires.first, (from c).requires.last
 
 pub locate_at-located-requires : goal.locate_at-located-requires
 locate_at-located-requires c = (
-  omega (arith, slice-aggregate-locate-at c.before.before),
-  omega (arith, slice-aggregate-locate-at-2 c.before),
+  omega (arith, slice-aggregate-locate-at c),
+  omega (arith, slice-aggregate-locate-at-2 c),
   omega (arith, slice-aggregate-locate-at-3 c),
 )
 
--- the turn of the loop, and the voxel that is located in it
-abbrev turn : goal.After-locate_at-located invariant-loop decreases-loop → goal.In-loop-k invariant-loop decreases-loop
-turn c = c.before.before.before.before
-
-located-is : (c : goal.After-locate_at-located invariant-loop decreases-loop) → let a = (from (turn c)).args in
-    c.locate-at.result ≡ stepped_by a.v a.image (with_number a.axis a.index (turn c).before.loop.k)
-unfolding with_number
-located-is c = c.locate-at.ensures
-
 pub copy_located-to-requires : goal.copy_located-to-requires
 copy_located-to-requires c =
-    let d = c.before in
-    let t = turn d in
+    let t = turn c in
     let S = from t in
     let a = S.args in
     let k = t.before.loop.k in
-    let below : k < count_along a.v.dim a.axis = omega (arith, t.before.loop.inv.0) in (
-      rw (located-is d) (part_holds a.v a.src.now a.image a.axis a.index (length a.out.now) S.pre k below),
-      rw (located-is d) (progress_room _ 0 _ _ _ _ k t.before.loop.inv.1 (omega arith)),
-    )
+    let below : k < count_along a.v.dim a.axis = omega (arith, t.before.loop.inv.0) in record { holds = rw (located-is c) (part_holds a.v a.src.now a.image a.axis a.index (length a.out.now) S.pre k below); src_in_bounds = rw (located-is c) (progress_room _ 0 _ _ _ _ k t.before.loop.inv.1 (omega arith)) }
 
 pub loop-k-preserved : goal.loop-k-preserved
 loop-k-preserved c =
-    let d = c.before.before.before.before in
-    let t = turn d in
+    let t = turn c in
     let S = from t in
     let a = S.args in
     let call = c.copy_located-to.ensures in
-    let part = ap (λ (l : Located). part_of l a.src.now) (located-is d) in (
+    let part = ap (λ (l : Located). part_of l a.src.now) (located-is c) in (
       t.before.loop.inv.0,
       progress_next _ 0 _ _ _ _ t.before.loop.k t.before.loop.inv.1 (omega arith) _ _ _ call.0 part
           (call.1 ∙ ap (λ (l : List ℕ). t.before.loop.to + length l) part),
@@ -78,9 +71,7 @@ loop-k-preserved c =
 
 pub returns : goal.returns
 returns c =
-    let lo = c.before in
-    let S = lo.before.before.before.before.before.before.before.before in
-    let a = S.args in
-    let line = line_series a.v a.src.now a.image a.axis a.index (length a.out.now) S.requires _ lo.loop-k.invariant.0 in
-    let done = progress_done _ 0 _ _ _ _ lo.loop-k.k lo.loop-k.invariant.1 (omega arith) in
+    let a = c.args in
+    let line = line_series a.v a.src.now a.image a.axis a.index (length a.out.now) c.requires _ c.loop-k.invariant.0 in
+    let done = progress_done _ 0 _ _ _ _ c.loop-k.k c.loop-k.invariant.1 (omega arith) in
     (rw line done.0, omega (arith, done.1, ap length line))

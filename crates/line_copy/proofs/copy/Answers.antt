@@ -8,17 +8,15 @@ use Rattle.line_copy.proofs.copy.Goals as goal
 
 pub by_steps-requires : goal.by_steps-requires
 by_steps-requires c =
-    let S = c.before.before.before.before in
-    let a = S.args in
-    let l = S.requires.0 in
+    let a = c.args in
+    let l = c.requires.lies in
     let inside = course_inside a.v a.src.now a.image a.axis a.index (length a.out.now) l in
     let gathers = course_gathers a.v a.src.now a.image a.axis a.index (length a.out.now) l in
     let room = line_room a.v a.src.now a.image a.axis a.index (length a.out.now) l in
-    rw (← S.requires.1) ((omega (arith, l.wide), refl), (inside, rw gathers room))
+    rw (← c.requires.index_value) ((omega (arith, l.wide), refl), (inside, rw gathers room))
 
 pub returns-in-Steps : goal.returns-in-Steps
 returns-in-Steps c =
-    let S = c.before.before.before.before.before.before.before in
-    let a = S.args in
-    let gathers = course_gathers a.v a.src.now a.image a.axis a.index (length a.out.now) S.requires.0 in
-    rw (← S.requires.1, gathers) at c.by_steps.ensures
+    let a = c.args in
+    let gathers = course_gathers a.v a.src.now a.image a.axis a.index (length a.out.now) c.requires.lies in
+    rw (← c.requires.index_value, gathers) at c.by_steps.ensures

@@ -6,20 +6,17 @@ use Rattle.line_plan.proofs.plan.Goals as goal
 
 pub along-requires : goal.along-requires
 along-requires c =
-    let j = c.before in
-    let a = j.args in
-    place_passed a.v a.file a.image (sym j.judge-judged.ensures ∙ c.in-Accepted.is)
+    let a = c.args in
+    place_passed a.v a.file a.image (sym c.judge-judged.ensures ∙ c.in-Accepted.is)
 
 pub returns-in-Refused : goal.returns-in-Refused
 returns-in-Refused c =
-    let j = c.before in
-    let a = j.args in
+    let a = c.args in
     let t = c.judged-1.given in
-    sym (planned_then a.v a.file a.image a.axis a.index a.out _ (sym j.judge-judged.ensures ∙ t.1))
+    sym (planned_then a.v a.file a.image a.axis a.index a.out _ (sym c.judge-judged.ensures ∙ t.1))
 
 pub returns-in-Accepted : goal.returns-in-Accepted
 returns-in-Accepted c =
-    let j = c.before.before in
-    let a = j.args in
+    let a = c.args in
     c.along.ensures
-    ∙ sym (planned_then a.v a.file a.image a.axis a.index a.out _ (sym j.judge-judged.ensures ∙ c.in-Accepted.is))
+    ∙ sym (planned_then a.v a.file a.image a.axis a.index a.out _ (sym c.judge-judged.ensures ∙ c.in-Accepted.is))

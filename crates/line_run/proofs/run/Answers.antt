@@ -9,8 +9,6 @@ returns-in-Refused c =
 
 pub returns-in-Accepted : goal.returns-in-Accepted
 returns-in-Accepted c =
-    let t = c.before.before.before.before.before in
-    let r = t.before in
-    let e = rw r.read-reading.ensures at t.in-Accepted.is in
-    let d = rw r.read-reading.ensures at c.run_in.ensures in
+    let e = rw c.read-reading.ensures at c.in-Accepted.is in
+    let d = rw c.read-reading.ensures at c.run_in.ensures in
     (rw e d.0, rw e d.1)

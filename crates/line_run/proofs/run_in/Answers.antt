@@ -12,18 +12,16 @@ loop-k-init c = (omega arith, drawn_none _ _ _ _, refl)
 
 pub loop-k-preserved : goal.loop-k-preserved
 loop-k-preserved c =
-    let lo = c.before.before.before.before.before.before.before.before in
-    let a = lo.args in (
+    let a = c.args in (
       omega arith,
-      drawn_next a.header a.file.now a.axis a.out.now lo.loop-k.k lo.loop-k.invariant.1 c.line_in-lined.ensures
+      drawn_next a.header a.file.now a.axis a.out.now c.loop-k.k c.loop-k.invariant.1 c.line_in-lined.ensures
           c.bytes_of.ensures c.greater-most.ensures,
-      omega (arith, lo.loop-k.invariant.2),
+      omega (arith, c.loop-k.invariant.2),
     )
 
 pub returns : goal.returns
 returns c =
-    let lo = c.before in
-    let a = lo.args in
-    let end : lo.loop-k.k ≡ a.count = omega arith in
-    let d = rw end at lo.loop-k.invariant.1 in
+    let a = c.args in
+    let end : c.loop-k.k ≡ a.count = omega arith in
+    let d = rw end at c.loop-k.invariant.1 in
     (d.1, d.0)

@@ -13,20 +13,17 @@ use Rattle.listing.proofs.Passed.{pass_none, pass_room, pass_end, pass_halt}
 use Rattle.listing.proofs.Filled.{Filled, fill_turn}
 use Rattle.listing.proofs.list.Goals as goal
 
+-- what the turn's step found, and the room that is left for it
+step_is : (c : tie.After-known-told invariant-loop decreases-loop) → let l = c.before.before.before.before in step_of l.before.before.before.before.args.file.now l.loop.walker ≡ Extension c.before.step2.given.0.0 c.before.step2.given.0.1.0
+step_is c = sym c.before.before.before.step.ensures ∙ c.before.step2.given.1
+
+room-is : (c : tie.After-known-told invariant-loop decreases-loop) → let w = c.before.before.before.before.loop.walker in (w.count < extension_limit) × (c.before.step2.given.0.1.0.count ≡ w.count + 1)
+room-is c = pass_room _ _ _ _ c.before.before.before.before.loop.invariant.passed _ _ (step_is c)
+
 pub loop-x-init : goal.loop-x-init
 loop-x-init c =
     let e = c.new-walker.ensures in
     record { so_far = []; passed = pass_none _ _ e.2 e.3; kept = c.no_spans-spans.ensures }
-
--- what the turn's step found, and the room that is left for it
-step_is : (c : goal.In-Extension invariant-loop decreases-loop) → let l = c.before.before.before.before in
-    step_of l.before.before.before.before.args.file.now l.loop.walker
-    ≡ Extension c.before.step2.given.0.0 c.before.step2.given.0.1.0
-step_is c = sym c.before.before.before.step.ensures ∙ c.before.step2.given.1
-
-room-is : (c : goal.In-Extension invariant-loop decreases-loop) → let w = c.before.before.before.before.loop.walker in
-    (w.count < extension_limit) × (c.before.step2.given.0.1.0.count ≡ w.count + 1)
-room-is c = pass_room _ _ _ _ c.before.before.before.before.loop.invariant.passed _ _ (step_is c)
 
 pub offset_bounds-spans-count : goal.offset_bounds-spans-count
 offset_bounds-spans-count c = omega (arith, room-is c)
@@ -43,16 +40,14 @@ loop-x-preserved c = fill_turn _ _ _ _ c.loop-x.invariant _ _ (step_is c)
 pub returns-in-End : goal.returns-in-End
 unfolding listing_of
 returns-in-End c =
-    let l = c.before.before in
-    let f = l.loop-x.invariant in
-    let e = l.new-walker.ensures in
+    let f = c.loop-x.invariant in
+    let e = c.new-walker.ensures in
     let all = pass_end _ _ _ _ f.passed (sym c.step-step.ensures ∙ c.in-End.is) in
     rw (← e.0, ← e.1, all, ← f.passed.counted, ← f.kept)
 
 pub returns-in-Halt : goal.returns-in-Halt
 unfolding listing_of
 returns-in-Halt c =
-    let l = c.before.before.before in
-    let e = l.new-walker.ensures in
-    let all = pass_halt _ _ _ _ l.loop-x.invariant.passed _ (sym c.step-step.ensures ∙ c.in-Halt.is) in
+    let e = c.new-walker.ensures in
+    let all = pass_halt _ _ _ _ c.loop-x.invariant.passed _ (sym c.step-step.ensures ∙ c.in-Halt.is) in
     rw (c.no_spans.ensures, ← e.0, ← e.1, all)

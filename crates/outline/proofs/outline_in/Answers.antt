@@ -7,21 +7,18 @@ use Rattle.outline.proofs.outline_in.Goals as goal
 
 pub outline_checked-requires : goal.outline_checked-requires
 outline_checked-requires c =
-    let k = c.before.before in
-    let a = k.args in
-    ap (checked_in a.file.now) (sym (k.requires.1 c.if-whole.true)) ∙ sym k.check_in-checked.ensures ∙ c.in-Fits.is
+    let a = c.args in
+    ap (checked_in a.file.now) (sym (c.requires.1 c.if-whole.true)) ∙ sym c.check_in-checked.ensures ∙ c.in-Fits.is
 
 pub returns-then-whole : goal.returns-then-whole
 returns-then-whole c = rw c.if-whole.true c.outline_checked.ensures
 
 pub returns-in-Breaks : goal.returns-in-Breaks
 returns-in-Breaks c =
-    let k = c.before in
-    let a = k.args in
+    let a = c.args in
     let t = c.checked-1.given in
-    outlines_unread a.file.now a.len a.whole a.wanted t.0.0 k.requires.1 (sym k.check_in-checked.ensures ∙ t.1)
+    outlines_unread a.file.now a.len a.whole a.wanted t.0.0 c.requires.1 (sym c.check_in-checked.ensures ∙ t.1)
 
 pub returns-else-whole : goal.returns-else-whole
 returns-else-whole c =
-    let k = c.before.before in
-    rw (c.if-whole.false, sym k.check_in-checked.ensures ∙ c.in-Fits.is)
+    rw (c.if-whole.false, sym c.check_in-checked.ensures ∙ c.in-Fits.is)

@@ -6,10 +6,8 @@ use Rattle.outline.proofs.scan_in.Goals as goal
 
 pub scan-requires : goal.scan-requires
 scan-requires c =
-    let h = c.before.before.before in
-    let S = h.before.before in
     rw c.region_end-end.ensures
-    (region_inside S.args.file.now S.args.layout S.requires (sym h.has_extensions.ensures ∙ c.if-has_extensions.true))
+    (region_inside c.args.file.now c.args.layout c.requires (sym c.has_extensions.ensures ∙ c.if-has_extensions.true))
 
 pub returns-then-has_extensions : goal.returns-then-has_extensions
 returns-then-has_extensions c =

@@ -12,25 +12,22 @@ use Rattle.piece_answers.proofs.extension_answer.Goals as goal
 
 pub shown_extension-requires : goal.shown_extension-requires
 shown_extension-requires c =
-    let a = c.before.before.before in
-    subst (λ r. r.header.count ≤ extension_limit) (sym a.answer-reading.ensures) (count_few a.args.pieces)
+    subst (λ r. r.header.count ≤ extension_limit) (sym c.answer-reading.ensures) (count_few c.args.pieces)
 
 pub returns-in-Accepted : goal.returns-in-Accepted
 unfolding extension_answer
 returns-in-Accepted c =
-    let a = c.before.before.before.before in
-    let r = a.answer-reading.result in
-    let n = a.args.number in
+    let r = c.answer-reading.result in
+    let n = c.args.number in
     c.shown_extension.ensures
     ∙ ap (λ v. decided v (extension_shown r.header.count (get_or r.header.spans n no_span) n) refused_extension) (sym c.in-Accepted.is)
-    ∙ ap (λ x. extension_answer x n) a.answer-reading.ensures
+    ∙ ap (λ x. extension_answer x n) c.answer-reading.ensures
 
 pub returns-in-Refused : goal.returns-in-Refused
 unfolding extension_answer
 returns-in-Refused c =
-    let a = c.before.before in
-    let r = a.answer-reading.result in
-    let n = a.args.number in
+    let r = c.answer-reading.result in
+    let n = c.args.number in
     c.refused_extension.ensures
     ∙ ap (λ v. decided v (extension_shown r.header.count (get_or r.header.spans n no_span) n) refused_extension) (sym c.in-Refused.is)
-    ∙ ap (λ x. extension_answer x n) a.answer-reading.ensures
+    ∙ ap (λ x. extension_answer x n) c.answer-reading.ensures

@@ -10,23 +10,20 @@ use Rattle.piece_answers.proofs.file_answer.Goals as goal
 
 pub shown_file-requires : goal.shown_file-requires
 shown_file-requires c =
-    let a = c.before.before.before in
-    subst (λ r. r.header.count ≤ extension_limit) (sym a.answer-reading.ensures) (count_few a.args.pieces)
+    subst (λ r. r.header.count ≤ extension_limit) (sym c.answer-reading.ensures) (count_few c.args.pieces)
 
 pub returns-in-Accepted : goal.returns-in-Accepted
 unfolding file_answer
 returns-in-Accepted c =
-    let a = c.before.before.before.before in
-    let r = a.answer-reading.result in
+    let r = c.answer-reading.result in
     c.shown_file.ensures
     ∙ ap (λ v. decided v (shown_file r.header r.image) refused_file) (sym c.in-Accepted.is)
-    ∙ ap file_answer a.answer-reading.ensures
+    ∙ ap file_answer c.answer-reading.ensures
 
 pub returns-in-Refused : goal.returns-in-Refused
 unfolding file_answer
 returns-in-Refused c =
-    let a = c.before.before in
-    let r = a.answer-reading.result in
+    let r = c.answer-reading.result in
     c.refused_file.ensures
     ∙ ap (λ v. decided v (shown_file r.header r.image) refused_file) (sym c.in-Refused.is)
-    ∙ ap file_answer a.answer-reading.ensures
+    ∙ ap file_answer c.answer-reading.ensures

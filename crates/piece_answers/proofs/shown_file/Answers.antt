@@ -7,8 +7,7 @@ use Rattle.piece_answers.proofs.shown_file.Goals as goal
 
 pub returns : goal.returns
 returns c =
-    let b = c.before.before.before in
-    let a = b.args in
+    let a = c.args in
     let h = a.header in
     let datatype : to_z w16 (of_z w16 h.intent.datatype) ≡ h.intent.datatype = search rules in
     let bitpix : to_z w16 (of_z w16 h.intent.bitpix) ≡ h.intent.bitpix = search rules in
@@ -17,8 +16,8 @@ returns c =
       place = 0;
       data_offset = a.image.offset;
       data_bytes = a.image.bytes;
-      big_endian = b.big_endian.ensures i;
-      pair = b.is_pair.ensures i;
+      big_endian = c.big_endian.ensures i;
+      pair = c.is_pair.ensures i;
       dim = h.dim;
       datatype = datatype i;
       bitpix = bitpix i;

@@ -14,21 +14,18 @@ outline_in-outlined-requires c = (omega (arith, slice-aggregate-outline-in c), �
 
 pub listed-requires : goal.listed-requires
 listed-requires c =
-    let k = c.before.before.before.before in
-    let s = k.args.pieces in
-    let fits = checked_shown (checked_in s.front s.taken) _ (sym k.outline_in-outlined.ensures ∙ k.in-Shown.is) in
-    (omega (arith, slice-aggregate-listed c), (checked_measured s.front s.taken _ fits, checked_aligned s.front s.taken _ fits))
+    let s = c.args.pieces in
+    let fits = checked_shown (checked_in s.front s.taken) _ (sym c.outline_in-outlined.ensures ∙ c.in-Shown.is) in
+    record { in_bounds = omega (arith, slice-aggregate-listed c); measured = checked_measured s.front s.taken _ fits; front_value = checked_aligned s.front s.taken _ fits }
 
 pub returns-in-Hidden : goal.returns-in-Hidden
 unfolding answer_of
 returns-in-Hidden c =
-    let k = c.before.before in
-    let s = k.args.pieces in
-    rw (checked_hidden (checked_in s.front s.taken) _ (sym k.outline_in-outlined.ensures ∙ k.in-Hidden.is)) c.refused.ensures
+    let s = c.args.pieces in
+    rw (checked_hidden (checked_in s.front s.taken) _ (sym c.outline_in-outlined.ensures ∙ c.in-Hidden.is)) c.refused.ensures
 
 pub returns-in-Shown : goal.returns-in-Shown
 unfolding answer_of
 returns-in-Shown c =
-    let k = c.before.before.before.before.before in
-    let s = k.args.pieces in
-    rw (checked_shown (checked_in s.front s.taken) _ (sym k.outline_in-outlined.ensures ∙ k.in-Shown.is)) c.listed.ensures
+    let s = c.args.pieces in
+    rw (checked_shown (checked_in s.front s.taken) _ (sym c.outline_in-outlined.ensures ∙ c.in-Shown.is)) c.listed.ensures

@@ -10,9 +10,8 @@ use Rattle.piece_walk.proofs.step_by.Goals as goal
 pub returns : goal.returns
 unfolding step_by
 returns c =
-    let n = c.before.before.before.before.before in
     let size = c.read_i32-size in
     let code = c.read_i32-code in
     let s : to_z w32 (of_z w32 size.result) ≡ size.result = to_z-of_z w32 size.result (record { sfits = size.type_inv }) in
     let d : to_z w32 (of_z w32 code.result) ≡ code.result = to_z-of_z w32 code.result (record { sfits = code.type_inv }) in
-    rw (s, d, size.ensures, code.ensures, n.minus-n.ensures, n.lesser.ensures) at c.step_by.ensures
+    rw (s, d, size.ensures, code.ensures, c.minus-n.ensures, c.lesser.ensures) at c.step_by.ensures

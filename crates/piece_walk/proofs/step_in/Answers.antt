@@ -13,15 +13,10 @@ use Rattle.piece_walk.proofs.Stepping.{step_short, step_with, number_in}
 use borrow.Author.Rules.{rules}
 use Rattle.piece_walk.proofs.step_in.Goals as goal
 
--- how many bytes are left of the region
-left_is : (m : goal.After-minus-n) → let a = m.args in
-    m.minus-n.result ≡ min a.walker.end (a.taken + length a.piece.now) - a.walker.at
-left_is m = rw m.lesser.ensures at m.minus-n.ensures
-
 pub returns-then-n-lt16 : goal.returns-then-n-lt16
 returns-then-n-lt16 c =
-    let m = c.before.before in
-    c.step_by.ensures ∙ step_short m.args.walker _ _ _ (left_is m) (pos 0) (pos 0) c.if-n-lt16.true
+    let left_is : let a = c.args in c.minus-n.result ≡ min a.walker.end (a.taken + length a.piece.now) - a.walker.at = rw c.lesser.ensures at c.minus-n.ensures in
+    c.step_by.ensures ∙ step_short c.args.walker _ _ _ left_is (pos 0) (pos 0) c.if-n-lt16.true
 
 pub returns-then-at-taken : goal.returns-then-at-taken
 returns-then-at-taken c =
@@ -30,17 +25,17 @@ returns-then-at-taken c =
 
 pub returns : goal.returns
 returns c =
-    let m = c.before.before.before.before.before in
-    let a = m.args in
+    let left_is : let a = c.args in c.minus-n.result ≡ min a.walker.end (a.taken + length a.piece.now) - a.walker.at = rw c.lesser.ensures at c.minus-n.ensures in
+    let a = c.args in
     let w = a.walker in
     let size = c.read_i32-size in
     let code = c.read_i32-code in
     let s : to_z w32 (of_z w32 size.result) ≡ size.result = to_z-of_z w32 size.result (record { sfits = size.type_inv }) in
     let d : to_z w32 (of_z w32 code.result) ≡ code.result = to_z-of_z w32 code.result (record { sfits = code.type_inv }) in
     let from : a.taken ≤ w.at = omega (arith, c.if-at-taken.false) in
-    let room : w.at + 8 ≤ w.end = omega (arith, left_is m, c.if-n-lt16.false) in
+    let room : w.at + 8 ≤ w.end = omega (arith, left_is, c.if-n-lt16.false) in
     let k : w.at - a.taken ≡ w.at - a.taken + 0 = omega arith in
     c.step_by-2.ensures
-    ∙ step_with w _ _ _ (left_is m) _ _
+    ∙ step_with w _ _ _ left_is _ _
     (s ∙ size.ensures ∙ ap (i32_at w.order a.piece.now) k ∙ number_in w.at w.end a.taken a.old a.piece.now from room w.order 0 (omega arith))
     (d ∙ code.ensures ∙ number_in w.at w.end a.taken a.old a.piece.now from room w.order 4 (omega arith))

@@ -12,6 +12,5 @@ returns-then-not-has_extensions c = rw (sym c.has_extensions.ensures ∙ not-tru
 pub returns : goal.returns
 unfolding end_in
 returns c =
-    let k = c.before.before.before in
-    rw (sym k.has_extensions.ensures ∙ not-false _ k.if-not-has_extensions.false)
-    (rw (k.kind_of.ensures, c.decode.ensures, c.read_u32.ensures) at c.end_by.ensures)
+    rw (sym c.has_extensions.ensures ∙ not-false _ c.if-not-has_extensions.false)
+    (rw (c.kind_of.ensures, c.decode.ensures, c.read_u32.ensures) at c.end_by.ensures)

@@ -13,24 +13,21 @@ use Rattle.pieces.proofs.front_with.Goals as goal
 pub returns-then-taken-ge352 : goal.returns-then-taken-ge352
 returns-then-taken-ge352 c = let a = c.args in sym (front_stays a.old a.taken a.piece.now c.if-taken-ge352.true)
 
--- as many bytes as the piece has of those that are missing
-brought-length : (l : goal.After-lesser-n) → length (take l.lesser-n.result l.args.piece.now) ≡ l.lesser-n.result
-brought-length l = length-take-le l.lesser-n.result l.args.piece.now (omega (arith, l.lesser-n.ensures))
-
 pub slice_bounds-copy_in-end-2 : goal.slice_bounds-copy_in-end-2
-slice_bounds-copy_in-end-2 c = sym (brought-length c.before.before)
+slice_bounds-copy_in-end-2 c =
+    let brought-length : length (take c.lesser-n.result c.args.piece.now) ≡ c.lesser-n.result = length-take-le c.lesser-n.result c.args.piece.now (omega (arith, c.lesser-n.ensures)) in
+    sym brought-length
 
 pub copy_in-requires : goal.copy_in-requires
 copy_in-requires c =
-    let l = c.before.before in
-    let h : 352 ≤ length l.args.old = search rules in
-    omega (arith, brought-length l, l.lesser-n.ensures, h)
+    let brought-length : length (take c.lesser-n.result c.args.piece.now) ≡ c.lesser-n.result = length-take-le c.lesser-n.result c.args.piece.now (omega (arith, c.lesser-n.ensures)) in
+    let h : 352 ≤ length c.args.old = search rules in
+    omega (arith, brought-length, c.lesser-n.ensures, h)
 
 pub returns : goal.returns
 unfolding front_with
 returns c =
-    let l = c.before.before.before.before in
-    let a = l.args in
+    let a = c.args in
     c.copy_in.ensures
     ∙ ap (put a.old a.taken)
-    (ap (λ k. take k a.piece.now) l.lesser-n.ensures ∙ take_lesser (352 - a.taken) a.piece.now)
+    (ap (λ k. take k a.piece.now) c.lesser-n.ensures ∙ take_lesser (352 - a.taken) a.piece.now)

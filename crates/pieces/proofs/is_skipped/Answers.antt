@@ -12,7 +12,6 @@ returns-then-taken-lt352 c = rw (lt-leb front_length c.args.true c.if-taken-lt35
 
 pub returns : goal.returns
 returns c =
-    let o = c.before in
-    let a = o.args in
-    let e = c.end_in.ensures ∙ ap (λ x. end_in x a.front.now) o.order_of.ensures in
-    rw (le-leb front_length a.taken o.if-taken-lt352.false) (ap (λ n. leb n a.taken || leb a.total a.at) e)
+    let a = c.args in
+    let e = c.end_in.ensures ∙ ap (λ x. end_in x a.front.now) c.order_of.ensures in
+    rw (le-leb front_length a.taken c.if-taken-lt352.false) (ap (λ n. leb n a.taken || leb a.total a.at) e)

@@ -11,13 +11,10 @@ use Rattle.pieces.proofs.read_on.Goals as goal
 pub returns : goal.returns
 unfolding read_on walk_with
 returns c =
-    let e = c.before.before in
-    let o = e.before.before in
-    let f = o.before.before in
-    let a = f.args in
+    let a = c.args in
     let s = a.pieces in
-    let l = f.front_with-front.ensures in
-    let order = o.order_of-order.ensures ∙ ap order_of l in
-    let end = e.end_in-end.ensures ∙ (λ i. end_in (order i) (l i)) in
+    let l = c.front_with-front.ensures in
+    let order = c.order_of-order.ensures ∙ ap order_of l in
+    let end = c.end_in-end.ensures ∙ (λ i. end_in (order i) (l i)) in
     let w = c.walk_on-walk.ensures ∙ (λ i. walked_on (order i) (end i) s.walk s.taken a.piece.now) in
     λ i. record { taken = s.taken + length a.piece.now; front = l i; walk = w i }

@@ -7,13 +7,11 @@ use Rattle.position.proofs.length_at.Goals as goal
 
 pub returns-then-axis-axis_count : goal.returns-then-axis-axis_count
 returns-then-axis-axis_count c =
-    let n = c.before.before in
-    let a = n.args in
-    let stated = length_stated a.dim.now a.axis (omega (arith, n.axis_count.ensures.0)) in
+    let a = c.args in
+    let stated = length_stated a.dim.now a.axis (omega (arith, c.axis_count.ensures.0)) in
     (c.axis_length.ensures.0 ∙ stated, c.axis_length.ensures.1)
 
 pub returns-else-axis-axis_count : goal.returns-else-axis-axis_count
 returns-else-axis-axis_count c =
-    let n = c.before in
-    let a = n.args in
-    (length-past a.dim.now a.axis (omega (arith, n.axis_count.ensures.0)), omega arith)
+    let a = c.args in
+    (length-past a.dim.now a.axis (omega (arith, c.axis_count.ensures.0)), omega arith)

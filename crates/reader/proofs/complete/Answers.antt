@@ -10,8 +10,7 @@ use Rattle.reader.proofs.complete.Goals as goal
 
 pub returns : goal.returns
 returns c =
-    let S = c.before.before.before.before in
-    let h = S.args.header in
+    let h = c.args.header in
     let same : to_z w16 (of_z w16 h.intent.bitpix) ≡ h.intent.bitpix = search rules in
-    let sizes = rw same at c.sizes_in-out.ensures ∙ measured_sizes (shape_of_record h) S.requires.0 in
-    λ i. with_facts (sizes i) (sym S.requires.1 i) h
+    let sizes = rw same at c.sizes_in-out.ensures ∙ measured_sizes (shape_of_record h) c.requires.measured in
+    λ i. with_facts (sizes i) (sym c.requires.header_value i) h

@@ -9,6 +9,5 @@ read_list-requires c = sym c.check-checked.ensures ∙ c.in-Fits.is
 
 pub returns-in-Breaks : goal.returns-in-Breaks
 returns-in-Breaks c =
-    let k = c.before.before in
     let b = c.checked-1.given in
-    c.refused.ensures ∙ reads_broken k.args.file.now b.0.0 (sym k.check-checked.ensures ∙ b.1)
+    c.refused.ensures ∙ reads_broken c.args.file.now b.0.0 (sym c.check-checked.ensures ∙ b.1)

@@ -8,22 +8,16 @@ use Rattle.reader.proofs.read_list.Goals as goal
 
 pub accepted-requires : goal.accepted-requires
 accepted-requires c =
-    let S = c.before.before.before.before in
-    let s = S.args.file.now in
-    (checked_measured s (length s) S.args.layout S.requires, checked_aligned s (length s) S.args.layout S.requires)
+    let s = c.args.file.now in
+    record { measured = checked_measured s (length s) c.args.layout c.requires; file_value = checked_aligned s (length s) c.args.layout c.requires }
 
 pub returns-in-Refused : goal.returns-in-Refused
 returns-in-Refused c =
-    let l = c.before.before in
-    let S = l.before.before in
     let v = c.verdict-1.given in
     c.refused.ensures
-    ∙ reads_refused S.args.file.now S.args.layout S.requires l.list_in-listing.result l.list_in-listing.ensures v.0.0 v.1
+    ∙ reads_refused c.args.file.now c.args.layout c.requires c.list_in-listing.result c.list_in-listing.ensures v.0.0 v.1
 
 pub returns-in-Accepted : goal.returns-in-Accepted
 returns-in-Accepted c =
-    let t = c.before.before in
-    let l = t.before in
-    let S = l.before.before in
     c.accepted.ensures
-    ∙ reads_accepted S.args.file.now S.args.layout S.requires l.list_in-listing.result l.list_in-listing.ensures t.in-Accepted.is
+    ∙ reads_accepted c.args.file.now c.args.layout c.requires c.list_in-listing.result c.list_in-listing.ensures c.in-Accepted.is

@@ -7,13 +7,10 @@ returns-then-t-o c = let a = c.args in rw (eq-eqb a.t.axis1 a.o c.if-t-o.true)
 
 pub returns-then-t-o-2 : goal.returns-then-t-o-2
 returns-then-t-o-2 c =
-    let e1 = c.before.before in
-    let a = e1.args in
-    rw (ne_eqb a.t.axis1 a.o e1.if-t-o.false, eq-eqb a.t.axis2 a.o c.if-t-o-2.true)
+    let a = c.args in
+    rw (ne_eqb a.t.axis1 a.o c.if-t-o.false, eq-eqb a.t.axis2 a.o c.if-t-o-2.true)
 
 pub returns : goal.returns
 returns c =
-    let e2 = c.before in
-    let e1 = e2.before.before in
-    let a = e1.args in
-    rw (ne_eqb a.t.axis1 a.o e1.if-t-o.false, ne_eqb a.t.axis2 a.o e2.if-t-o-2.false)
+    let a = c.args in
+    rw (ne_eqb a.t.axis1 a.o c.if-t-o.false, ne_eqb a.t.axis2 a.o c.if-t-o-2.false)

@@ -11,21 +11,19 @@ use Rattle.reorient.proofs.Axes.{step_next, axes_next, axes_done}
 use Rattle.reorient.proofs.old_axes.Goals as goal
 
 pub loop-k-init : goal.loop-k-init
-loop-k-init c = (omega arith, refl, refl, c.requires.0, refl)
+loop-k-init c = (omega arith, refl, refl, c.requires.lengths_nonzero, refl)
 
 pub overflow_mul-step : goal.overflow_mul-step
 overflow_mul-step c =
     let v = c.loop-k in
-    let s = c.before.before.before.before in
-    let a = s.args in
+    let a = c.args in
     let next = step_next v.step a.t1 v.k (a.b * voxels a.t1) (omega arith) v.invariant.2 v.invariant.3 in
     omega (arith, next.small)
 
 pub loop-k-preserved : goal.loop-k-preserved
 loop-k-preserved c =
     let v = c.loop-k in
-    let s = c.before.before.before.before in
-    let a = s.args in
+    let a = c.args in
     let next = step_next v.step a.t1 v.k (a.b * voxels a.t1) (omega arith) v.invariant.2 v.invariant.3 in
     let made = c.axis_of.ensures ∙ ap (axis_of (get_or a.t1 v.k 0) v.step) c.reversed_at.ensures in (
       omega arith,

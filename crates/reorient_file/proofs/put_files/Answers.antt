@@ -6,59 +6,43 @@ use Rattle.reorient_file.proofs.put_files.Goals as goal
 
 pub put_holder-requires : goal.put_holder-requires
 put_holder-requires c =
-    let s = c.before.before.before.before.before.before in
-    let a = s.args in
-    let same = s.requires.1.1.1.0 in
-    let r = s.requires.1.1.1.1 in
+    let a = c.args in
+    let same = c.requires.place_value in
+    let r = c.requires.room in
     let room = room_single a.header a.file.now a.image.now _ _ r c.in-Single.is in
-    (s.requires.0, (s.requires.1.1.0, (same, (rw same room, r.fits))))
+    record { t_value = c.requires.t_value; sized = c.requires.sized; image_value = same; bytes_in_bounds = rw same room; src_in_bounds = r.fits }
 
 pub put_header-requires : goal.put_header-requires
 put_header-requires c =
-    let holder = c.before.before.before in
-    let s = holder.before.before.before.before.before.before.before in
-    let r = s.requires.1.1.1.1 in
-    (s.requires.0, (s.requires.1.0, omega (arith, r.long, r.fits, holder.put_holder.auto.0)))
+    let r = c.requires.room in
+    record { t_value = c.requires.t_value; header_value = c.requires.header_value; in_bounds = omega (arith, r.long, r.fits, c.put_holder.auto.0) }
 
 pub put_header-requires-in-Pair : goal.put_header-requires-in-Pair
 put_header-requires-in-Pair c =
-    let copy = c.before.before.before in
-    let s = copy.before.before.before.before.before.before.before in
-    let r = s.requires.1.1.1.1 in
-    (s.requires.0, (s.requires.1.0, omega (arith, r.long, r.fits, copy.copy_in.auto.0)))
+    let r = c.requires.room in
+    record { t_value = c.requires.t_value; header_value = c.requires.header_value; in_bounds = omega (arith, r.long, r.fits, c.copy_in.auto.0) }
 
 pub put_holder-requires-in-Pair : goal.put_holder-requires-in-Pair
 put_holder-requires-in-Pair c =
-    let told = c.before.before.before.before.before.before.before.before.before in
-    let s = told.before.before.before.before.before in
-    let a = s.args in
-    let k = told.in-Pair.is in
-    let same = s.requires.1.1.1.0 in
-    let r = s.requires.1.1.1.1 in
+    let a = c.args in
+    let k = c.in-Pair.is in
+    let same = c.requires.place_value in
+    let r = c.requires.room in
     let room = room_pair a.header a.file.now a.image.now _ _ r k in
-    (s.requires.0, (s.requires.1.1.0, (same, (rw same room, fits_pair a.header a.file.now a.image.now _ _ r k))))
+    record { t_value = c.requires.t_value; sized = c.requires.sized; image_value = same; bytes_in_bounds = rw same room; src_in_bounds = fits_pair a.header a.file.now a.image.now _ _ r k }
 
 pub returns-in-Single : goal.returns-in-Single
 returns-in-Single c =
-    let header = c.before.before in
-    let holder = header.before.before.before.before in
-    let told = holder.before.before in
-    let s = told.before.before.before.before.before in
-    let a = s.args in
-    let k = told.in-Single.is in
-    let r = s.requires.1.1.1.1 in
-    files_single a.header a.file.now a.image.now _ _ r a.t _ _ _ _ k s.requires.0 s.requires.1.1.0
-    holder.put_holder.ensures header.put_header.ensures
+    let a = c.args in
+    let k = c.in-Single.is in
+    let r = c.requires.room in
+    files_single a.header a.file.now a.image.now _ _ r a.t _ _ _ _ k c.requires.t_value c.requires.sized
+    c.put_holder.ensures c.put_header.ensures
 
 pub returns-in-Pair : goal.returns-in-Pair
 returns-in-Pair c =
-    let holder = c.before.before in
-    let header = holder.before.before.before.before in
-    let copy = header.before.before.before.before in
-    let told = copy.before.before in
-    let s = told.before.before.before.before.before in
-    let a = s.args in
-    let k = told.in-Pair.is in
-    let r = s.requires.1.1.1.1 in
+    let a = c.args in
+    let k = c.in-Pair.is in
+    let r = c.requires.room in
     files_pair a.header a.file.now a.image.now _ _ r a.t _ _ _ _ _ k
-    copy.copy_in.ensures header.put_header-in-Pair.ensures holder.put_holder-in-Pair.ensures
+    c.copy_in.ensures c.put_header-in-Pair.ensures c.put_holder-in-Pair.ensures

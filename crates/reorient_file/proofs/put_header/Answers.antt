@@ -12,10 +12,8 @@ use Rattle.reorient_file.proofs.put_header.Goals as goal
 pub returns : goal.returns
 unfolding with_header
 returns c =
-    let written = c.before.before in
-    let after = written.before.before in
-    let l = after.args.out.now in
-    let h = after.header_after-new.result in
+    let l = c.args.out.now in
+    let h = c.header_after-new.result in
     let n = length-encode h in
     let stored = rw n at (sets_front (encode h) l (omega arith)) in
-    written.write_header.ensures ∙ stored ∙ ap (λ (g : Header). with_header g l) after.header_after-new.ensures
+    c.write_header.ensures ∙ stored ∙ ap (λ (g : Header). with_header g l) c.header_after-new.ensures

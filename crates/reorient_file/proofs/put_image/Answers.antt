@@ -11,27 +11,16 @@ use Rattle.reorient_file.proofs.Made.{image_voxels}
 use borrow.Author.Rules.{rules}
 use Rattle.reorient_file.proofs.put_image.Goals as goal
 
--- where the function began, and bitpix as it is passed on
-abbrev start : goal.After-struct_told-1 → goal.Start
-start c = c.before.before.before.before.before.before.before.before.before
-
-bitpix-same : (c : goal.After-struct_told-1) → let z = (start c).args.header.intent.bitpix in to_z w16 (of_z w16 z) ≡ z
-bitpix-same c = search rules
-
--- the bytes of a voxel that are passed on
-bytes-is : (c : goal.After-natural-bytes) → c.natural-bytes.result / 8 ≡ voxel_bytes (start c.before).args.header
-bytes-is c = ap (λ (n : ℕ). n / 8) (c.natural-bytes.ensures.0 ∙ ap natural_of (bitpix-same c.before))
-
 pub reorient_image-requires : goal.reorient_image-requires
 reorient_image-requires c =
-    let seven = c.before.before.before in
-    let s = start c.before.before in
-    let h = s.args.header in
-    let lengths = seven.seven-lengths.ensures ∙ ap (seven_axes h.dim) seven.axis_count.ensures.0 in
-    let z = s.requires.1.0 in
+    let bitpix-same : let z = c.args.header.intent.bitpix in to_z w16 (of_z w16 z) ≡ z = search rules in
+    let bytes-is : c.natural-bytes.result / 8 ≡ voxel_bytes c.args.header = ap (λ (n : ℕ). n / 8) (c.natural-bytes.ensures.0 ∙ ap natural_of bitpix-same) in
+    let h = c.args.header in
+    let lengths = c.seven-lengths.ensures ∙ ap (seven_axes h.dim) c.axis_count.ensures.0 in
+    let z = c.requires.sized in
     let n = image_voxels h in
-    rw (lengths, bytes-is c.before) (
-      s.requires.0,
+    rw (lengths, bytes-is) (
+      c.requires.t_value,
       (
         z.small,
         (
@@ -39,8 +28,8 @@ reorient_image-requires c =
           (
             omega (arith, n, z.bytes),
             (
-              omega (arith, n, s.requires.1.1.0),
-              omega (arith, n, s.requires.1.1.0, s.requires.1.1.1),
+              omega (arith, n, c.requires.header_in_bounds),
+              omega (arith, n, c.requires.header_in_bounds, c.requires.src_in_bounds),
             ),
           ),
         ),
@@ -49,9 +38,8 @@ reorient_image-requires c =
 
 pub returns : goal.returns
 returns c =
-    let image = c.before.before in
-    let natural = image.before.before in
-    let seven = natural.before.before in
-    let h = (start natural.before).args.header in
-    let lengths = seven.seven-lengths.ensures ∙ ap (seven_axes h.dim) seven.axis_count.ensures.0 in
-    rw (lengths, bytes-is natural) at image.reorient_image.ensures
+    let bitpix-same : let z = c.args.header.intent.bitpix in to_z w16 (of_z w16 z) ≡ z = search rules in
+    let bytes-is : c.natural-bytes.result / 8 ≡ voxel_bytes c.args.header = ap (λ (n : ℕ). n / 8) (c.natural-bytes.ensures.0 ∙ ap natural_of bitpix-same) in
+    let h = c.args.header in
+    let lengths = c.seven-lengths.ensures ∙ ap (seven_axes h.dim) c.axis_count.ensures.0 in
+    rw (lengths, bytes-is) at c.reorient_image.ensures

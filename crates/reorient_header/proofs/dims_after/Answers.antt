@@ -15,52 +15,52 @@ use Rattle.reorient_header.proofs.Made.{entries}
 use borrow.Author.Rules.{rules}
 use Rattle.reorient_header.proofs.dims_after.Goals as goal
 
--- the axes are 1 to 3
-small : (s : goal.Start) → let t = s.args.t in (t.axis1 ≤ 3) × (t.axis2 ≤ 3) × (t.axis3 ≤ 3)
-small s = let h = bounds s.args.t s.requires in (h.high1, h.high2, h.high3)
-
-pub offset_bounds-dim-i : goal.offset_bounds-dim-i
-offset_bounds-dim-i c = omega (arith, (small c.before).0)
-
-pub bounds-dim-i : goal.bounds-dim-i
-bounds-dim-i c = omega (arith, (small c.before).0)
-
-pub offset_bounds-dim-j : goal.offset_bounds-dim-j
-offset_bounds-dim-j c = omega (arith, (small c.before.before).1)
-
-pub bounds-dim-j : goal.bounds-dim-j
-bounds-dim-j c = omega (arith, (small c.before.before).1)
-
-pub offset_bounds-dim-k : goal.offset_bounds-dim-k
-offset_bounds-dim-k c = omega (arith, (small c.before.before.before).2)
-
-pub bounds-dim-k : goal.bounds-dim-k
-bounds-dim-k c = omega (arith, (small c.before.before.before).2)
-
 -- a number of an array of signed numbers fits its width
 same : (z : ℤ) → mag z < 2 ^ hbits w16 → to_z w16 (of_z w16 z) ≡ z
 same z h = to_z-of_z w16 z (record { sfits = h })
 
+pub offset_bounds-dim-i : goal.offset_bounds-dim-i
+offset_bounds-dim-i c =
+    let small : let t = c.args.t in (t.axis1 ≤ 3) × (t.axis2 ≤ 3) × (t.axis3 ≤ 3) = let h = bounds c.args.t c.requires in (h.high1, h.high2, h.high3) in
+    omega (arith, small.0)
+
+pub bounds-dim-i : goal.bounds-dim-i
+bounds-dim-i c =
+    let small : let t = c.args.t in (t.axis1 ≤ 3) × (t.axis2 ≤ 3) × (t.axis3 ≤ 3) = let h = bounds c.args.t c.requires in (h.high1, h.high2, h.high3) in
+    omega (arith, small.0)
+
+pub offset_bounds-dim-j : goal.offset_bounds-dim-j
+offset_bounds-dim-j c =
+    let small : let t = c.args.t in (t.axis1 ≤ 3) × (t.axis2 ≤ 3) × (t.axis3 ≤ 3) = let h = bounds c.args.t c.requires in (h.high1, h.high2, h.high3) in
+    omega (arith, small.1)
+
+pub bounds-dim-j : goal.bounds-dim-j
+bounds-dim-j c =
+    let small : let t = c.args.t in (t.axis1 ≤ 3) × (t.axis2 ≤ 3) × (t.axis3 ≤ 3) = let h = bounds c.args.t c.requires in (h.high1, h.high2, h.high3) in
+    omega (arith, small.1)
+
+pub offset_bounds-dim-k : goal.offset_bounds-dim-k
+offset_bounds-dim-k c =
+    let small : let t = c.args.t in (t.axis1 ≤ 3) × (t.axis2 ≤ 3) × (t.axis3 ≤ 3) = let h = bounds c.args.t c.requires in (h.high1, h.high2, h.high3) in
+    omega (arith, small.2)
+
+pub bounds-dim-k : goal.bounds-dim-k
+bounds-dim-k c =
+    let small : let t = c.args.t in (t.axis1 ≤ 3) × (t.axis2 ≤ 3) × (t.axis3 ≤ 3) = let h = bounds c.args.t c.requires in (h.high1, h.high2, h.high3) in
+    omega (arith, small.2)
+
 pub returns : goal.returns
 unfolding entries_after
 returns c =
-    let t30 = c.before in
-    let t27 = t30.before in
-    let t24 = t27.before in
-    let t21 = t24.before in
-    let t17 = t21.before in
-    let t13 = t17.before in
-    let t9 = t13.before in
-    let s = t9.before in
-    let a = s.args in
+    let a = c.args in
     rw (
-      same (get_or a.t1 0 (pos 0)) t9.result-1.given,
-      same (get_or a.t1 a.t.axis1 (pos 0)) t13.result-2-1.given,
-      same (get_or a.t1 a.t.axis2 (pos 0)) t17.result-3-1.given,
-      same (get_or a.t1 a.t.axis3 (pos 0)) t21.result-4-1.given,
-      same (get_or a.t1 4 (pos 0)) t24.result-5-1.given,
-      same (get_or a.t1 5 (pos 0)) t27.result-6-1.given,
-      same (get_or a.t1 6 (pos 0)) t30.result-7-1.given,
+      same (get_or a.t1 0 (pos 0)) c.result-1.given,
+      same (get_or a.t1 a.t.axis1 (pos 0)) c.result-2-1.given,
+      same (get_or a.t1 a.t.axis2 (pos 0)) c.result-3-1.given,
+      same (get_or a.t1 a.t.axis3 (pos 0)) c.result-4-1.given,
+      same (get_or a.t1 4 (pos 0)) c.result-5-1.given,
+      same (get_or a.t1 5 (pos 0)) c.result-6-1.given,
+      same (get_or a.t1 6 (pos 0)) c.result-7-1.given,
       same (get_or a.t1 7 (pos 0)) c.result-8-1.given,
     )
-    (ap (λ l. get_or a.t1 0 (pos 0) ∷ l) (entries a.t1 (pos 0) a.t s.requires (omega arith)))
+    (ap (λ l. get_or a.t1 0 (pos 0) ∷ l) (entries a.t1 (pos 0) a.t c.requires (omega arith)))

@@ -6,14 +6,10 @@ use Rattle.reorient_header.proofs.header_after.Goals as goal
 pub returns : goal.returns
 unfolding header_after
 returns c =
-    let quatern = c.before in
-    let scale = quatern.before in
-    let key = scale.before in
-    let dims = key.before in
     rw (
-      dims.dims_after.ensures,
-      key.key_after.ensures,
-      scale.scale_after.ensures,
-      quatern.quatern_after.ensures,
+      c.dims_after.ensures,
+      c.key_after.ensures,
+      c.scale_after.ensures,
+      c.quatern_after.ensures,
       c.sform_after.ensures,
     )

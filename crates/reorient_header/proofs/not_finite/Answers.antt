@@ -9,20 +9,16 @@ use Rattle.reorient_header.specs.After.{not_finite}
 use borrow.Author.Rules.{rules}
 use Rattle.reorient_header.proofs.not_finite.Goals as goal
 
-code_same : (c : goal.After-struct_told-1)
-    → let z = c.args.header.quatern.sform_code in to_z w16 (of_z w16 z) ≡ z
-code_same c = search rules
-
-unset : (c : goal.Then-quatern-le0) → le_z c.args.header.quatern.sform_code (pos 0) ≡ true
-unset c = (λ i. le_z (sym (code_same c.before) i) (pos 0)) ∙ c.if-quatern-le0.true
-
-above : (c : goal.Else-quatern-le0) → le_z c.args.header.quatern.sform_code (pos 0) ≡ false
-above c = (λ i. le_z (sym (code_same c.before) i) (pos 0)) ∙ c.if-quatern-le0.false
-
 pub returns-then-quatern-le0 : goal.returns-then-quatern-le0
 unfolding not_finite
-returns-then-quatern-le0 c = rw (unset c)
+returns-then-quatern-le0 c =
+    let code_same : let z = c.args.header.quatern.sform_code in to_z w16 (of_z w16 z) ≡ z = search rules in
+    let unset : le_z c.args.header.quatern.sform_code (pos 0) ≡ true = (λ i. le_z (sym code_same i) (pos 0)) ∙ c.if-quatern-le0.true in
+    rw unset
 
 pub returns : goal.returns
 unfolding not_finite
-returns c = rw (above c.before.before.before, c.stay_finite.ensures)
+returns c =
+    let code_same : let z = c.args.header.quatern.sform_code in to_z w16 (of_z w16 z) ≡ z = search rules in
+    let above : le_z c.args.header.quatern.sform_code (pos 0) ≡ false = (λ i. le_z (sym code_same i) (pos 0)) ∙ c.if-quatern-le0.false in
+    rw (above, c.stay_finite.ensures)

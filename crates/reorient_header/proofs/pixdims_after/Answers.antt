@@ -10,27 +10,35 @@ use Rattle.reorient_header.proofs.Made.{entries}
 use borrow.Author.Rules.{rules}
 use Rattle.reorient_header.proofs.pixdims_after.Goals as goal
 
--- the axes are 1 to 3
-small : (s : goal.Start) → let t = s.args.t in (t.axis1 ≤ 3) × (t.axis2 ≤ 3) × (t.axis3 ≤ 3)
-small s = let h = bounds s.args.t s.requires in (h.high1, h.high2, h.high3)
-
 pub offset_bounds-pixdim-first : goal.offset_bounds-pixdim-first
-offset_bounds-pixdim-first c = omega (arith, (small c).0)
+offset_bounds-pixdim-first c =
+    let small : let t = c.args.t in (t.axis1 ≤ 3) × (t.axis2 ≤ 3) × (t.axis3 ≤ 3) = let h = bounds c.args.t c.requires in (h.high1, h.high2, h.high3) in
+    omega (arith, small.0)
 
 pub bounds-pixdim-first : goal.bounds-pixdim-first
-bounds-pixdim-first c = omega (arith, (small c).0)
+bounds-pixdim-first c =
+    let small : let t = c.args.t in (t.axis1 ≤ 3) × (t.axis2 ≤ 3) × (t.axis3 ≤ 3) = let h = bounds c.args.t c.requires in (h.high1, h.high2, h.high3) in
+    omega (arith, small.0)
 
 pub offset_bounds-pixdim-second : goal.offset_bounds-pixdim-second
-offset_bounds-pixdim-second c = omega (arith, (small c).1)
+offset_bounds-pixdim-second c =
+    let small : let t = c.args.t in (t.axis1 ≤ 3) × (t.axis2 ≤ 3) × (t.axis3 ≤ 3) = let h = bounds c.args.t c.requires in (h.high1, h.high2, h.high3) in
+    omega (arith, small.1)
 
 pub bounds-pixdim-second : goal.bounds-pixdim-second
-bounds-pixdim-second c = omega (arith, (small c).1)
+bounds-pixdim-second c =
+    let small : let t = c.args.t in (t.axis1 ≤ 3) × (t.axis2 ≤ 3) × (t.axis3 ≤ 3) = let h = bounds c.args.t c.requires in (h.high1, h.high2, h.high3) in
+    omega (arith, small.1)
 
 pub offset_bounds-pixdim-third : goal.offset_bounds-pixdim-third
-offset_bounds-pixdim-third c = omega (arith, (small c).2)
+offset_bounds-pixdim-third c =
+    let small : let t = c.args.t in (t.axis1 ≤ 3) × (t.axis2 ≤ 3) × (t.axis3 ≤ 3) = let h = bounds c.args.t c.requires in (h.high1, h.high2, h.high3) in
+    omega (arith, small.2)
 
 pub bounds-pixdim-third : goal.bounds-pixdim-third
-bounds-pixdim-third c = omega (arith, (small c).2)
+bounds-pixdim-third c =
+    let small : let t = c.args.t in (t.axis1 ≤ 3) × (t.axis2 ≤ 3) × (t.axis3 ≤ 3) = let h = bounds c.args.t c.requires in (h.high1, h.high2, h.high3) in
+    omega (arith, small.2)
 
 pub returns : goal.returns
 unfolding entries_after

@@ -5,9 +5,6 @@ use Rattle.reorient_header.proofs.stay_finite.Goals as goal
 
 pub returns : goal.returns
 returns c =
-    let n = c.before.before.before.before.before.before in
-    let m = n.before.before in
-    let l = m.before.before in
-    let a = l.args in
-    rows_finite a.t a.t2 a.rows _ _ _ l.length_in-l.ensures m.length_in-m.ensures n.length_in-n.ensures _ _ _
+    let a = c.args in
+    rows_finite a.t a.t2 a.rows _ _ _ c.length_in-l.ensures c.length_in-m.ensures c.length_in-n.ensures _ _ _
     c.stays_finite-x.ensures c.stays_finite-y.ensures c.stays_finite-z.ensures

@@ -6,7 +6,7 @@ use borrow.Author.Rules.{rules}
 use Rattle.reorient_rows.proofs.stays_finite.Goals as goal
 
 pub numbers_of-requires : goal.numbers_of-requires
-numbers_of-requires c = (c.requires, sym c.row_is_finite.ensures ∙ c.if-row_is_finite.true)
+numbers_of-requires c = record { t_value = c.requires; row_value = sym c.row_is_finite.ensures ∙ c.if-row_is_finite.true }
 
 pub returns-then-row_is_finite : goal.returns-then-row_is_finite
 unfolding finite_after

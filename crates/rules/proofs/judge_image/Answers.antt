@@ -9,52 +9,54 @@ use Rattle.rules.proofs.Judging.{HasOffset, judged_9, judged_10, judged_passed, 
 use borrow.Author.Rules.{rules}
 use Rattle.rules.proofs.judge_image.Goals as goal
 
--- what the offset's reading told
-told : (S : goal.Start) → Reads S.args.shape.vox_offset (whole_in S.args.offset) (says_aligned S.args.offset)
-told S = whole_reads S.args.shape.vox_offset S.args.offset S.requires.3 S.requires.4
-
--- the offset's number
-at-is : (w : goal.After-whole_in-at) → whole_of w.args.shape.vox_offset ≡ w.whole_in-at.result
-at-is w = (told w.before).value ∙ sym w.whole_in-at.ensures
-
-offered : (w : goal.After-whole_in-at) → HasOffset w.args.shape w.args.format w.whole_in-at.result
-offered w =
-    let S = w.before in
-    record {
-      format = record { axes = S.requires.0; known = S.requires.1 };
-      bits = S.requires.2;
-      whole = (told S).whole;
-      value = at-is w;
-    }
-
 pub returns-then-offset_outside : goal.returns-then-offset_outside
 returns-then-offset_outside c =
-    let w = c.before.before.before in
-    let a = w.args in
+    let told : Reads c.args.shape.vox_offset (whole_in c.args.offset) (says_aligned c.args.offset) = whole_reads c.args.shape.vox_offset c.args.offset c.requires.3 c.requires.4 in
+    let at-is : whole_of c.args.shape.vox_offset ≡ c.whole_in-at.result = told.value ∙ sym c.whole_in-at.ensures in
+    let offered : HasOffset c.args.shape c.args.format c.whole_in-at.result =
+        record {
+          format = record { axes = c.requires.0; known = c.requires.1 };
+          bits = c.requires.2;
+          whole = told.whole;
+          value = at-is;
+        } in
+    let a = c.args in
     let outside = sym c.offset_outside.ensures ∙ c.if-offset_outside.true in
-    c.failed.ensures ∙ judged_9 a.shape a.len a.format w.whole_in-at.result (offered w) outside
+    c.failed.ensures ∙ judged_9 a.shape a.len a.format c.whole_in-at.result offered outside
 
 pub returns-then-bytes-gt-LIMIT : goal.returns-then-bytes-gt-LIMIT
 returns-then-bytes-gt-LIMIT c =
-    let b = c.before.before in
-    let f = b.before.before.before.before.before in
-    let w = f.before.before in
-    let a = w.args in
-    let at = w.whole_in-at.result in
-    let inside = sym f.offset_outside.ensures ∙ f.if-offset_outside.false in
-    let total = b.image_bytes-bytes.ensures ∙ image_is a.shape a.len a.format at (offered w) b.axis_count.ensures.0 in
-    c.failed-then-bytes-gt-LIMIT.ensures ∙ judged_10 a.shape a.len a.format at (offered w) inside (omega (arith, total))
+    let told : Reads c.args.shape.vox_offset (whole_in c.args.offset) (says_aligned c.args.offset) = whole_reads c.args.shape.vox_offset c.args.offset c.requires.3 c.requires.4 in
+    let at-is : whole_of c.args.shape.vox_offset ≡ c.whole_in-at.result = told.value ∙ sym c.whole_in-at.ensures in
+    let offered : HasOffset c.args.shape c.args.format c.whole_in-at.result =
+        record {
+          format = record { axes = c.requires.0; known = c.requires.1 };
+          bits = c.requires.2;
+          whole = told.whole;
+          value = at-is;
+        } in
+    let a = c.args in
+    let at = c.whole_in-at.result in
+    let inside = sym c.offset_outside.ensures ∙ c.if-offset_outside.false in
+    let total = c.image_bytes-bytes.ensures ∙ image_is a.shape a.len a.format at offered c.axis_count.ensures.0 in
+    c.failed-then-bytes-gt-LIMIT.ensures ∙ judged_10 a.shape a.len a.format at offered inside (omega (arith, total))
 
 pub returns : goal.returns
 returns c =
-    let b = c.before.before in
-    let f = b.before.before.before.before.before in
-    let w = f.before.before in
-    let a = w.args in
-    let at = w.whole_in-at.result in
-    let inside = sym f.offset_outside.ensures ∙ f.if-offset_outside.false in
-    let total = b.image_bytes-bytes.ensures ∙ image_is a.shape a.len a.format at (offered w) b.axis_count.ensures.0 in
-    let same : b.image_bytes-bytes.result ≡ bytes_of_image a.shape = omega (arith, total) in
-    let fact = c.says_aligned.ensures ∙ sym (told w.before).fact in
-    (λ i. Passed (record { offset = sym (at-is w) i; bytes = same i }) (fact i))
-    ∙ judged_passed a.shape a.len a.format at (offered w) inside (omega (arith, total))
+    let told : Reads c.args.shape.vox_offset (whole_in c.args.offset) (says_aligned c.args.offset) = whole_reads c.args.shape.vox_offset c.args.offset c.requires.3 c.requires.4 in
+    let at-is : whole_of c.args.shape.vox_offset ≡ c.whole_in-at.result = told.value ∙ sym c.whole_in-at.ensures in
+    let offered : HasOffset c.args.shape c.args.format c.whole_in-at.result =
+        record {
+          format = record { axes = c.requires.0; known = c.requires.1 };
+          bits = c.requires.2;
+          whole = told.whole;
+          value = at-is;
+        } in
+    let a = c.args in
+    let at = c.whole_in-at.result in
+    let inside = sym c.offset_outside.ensures ∙ c.if-offset_outside.false in
+    let total = c.image_bytes-bytes.ensures ∙ image_is a.shape a.len a.format at offered c.axis_count.ensures.0 in
+    let same : c.image_bytes-bytes.result ≡ bytes_of_image a.shape = omega (arith, total) in
+    let fact = c.says_aligned.ensures ∙ sym told.fact in
+    (λ i. Passed (record { offset = sym at-is i; bytes = same i }) (fact i))
+    ∙ judged_passed a.shape a.len a.format at offered inside (omega (arith, total))

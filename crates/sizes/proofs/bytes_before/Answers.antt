@@ -22,20 +22,8 @@ use Rattle.sizes.proofs.bytes_before.Goals as goal
 more : (k sum p : ℕ) → sum ≤ k * (32767 * (image_limit + 1)) → p ≤ 32767 * (image_limit + 1) → sum + p ≤ (k + 1) * (32767 * (image_limit + 1))
 more k sum p h g = omega arith
 
-pub loop-k-init : goal.loop-k-init
-loop-k-init c = (omega arith, omega arith, refl, omega arith)
-
-pub length_after-requires : goal.length_after-requires
-length_after-requires c = omega (arith, c.requires.2)
-
 -- one axis more, by its own test
-next : (c : goal.After-length_after invariant-loop decreases-loop)
-    → let lo = c.before.before.before in
-    let a = lo.before.before.before.args in
-    let k = lo.loop.k in
-    let l = seven_axes a.dim.now a.n in
-    within l a.index.now
-    ≡ (ltb (get_or a.index.now k 0) c.length-after.result && within (drop (k + 1) l) (drop (k + 1) a.index.now))
+next : (c : tie.After-length-after invariant-loop decreases-loop) → let lo = c.before.before.before in let a = lo.before.before.before.args in let k = lo.loop.k in let l = seven_axes a.dim.now a.n in within l a.index.now ≡ (ltb (get_or a.index.now k 0) c.length_after.result && within (drop (k + 1) l) (drop (k + 1) a.index.now))
 next c =
     let lo = c.before.before.before in
     let S = lo.before.before.before in
@@ -45,27 +33,30 @@ next c =
     let few = S.requires.2 in
     lo.loop.invariant.2
     ∙ within_next l a.index.now lo.loop.k (omega arith) (omega arith)
-    ∙ rw (← c.length-after.ensures.0)
-
-pub returns-then-length_after-i : goal.returns-then-length_after-i
-returns-then-length_after-i c =
-    let a = c.args in
-    let out : within (seven_axes a.dim.now a.n) a.index.now ≡ false = rw (next c.before, le-ltb _ _ c.if-length_after-i.true) in
-    record { outside = λ _. refl; inside = λ w. absurd (false≢true (sym out ∙ w)); small = λ w. absurd (false≢true (sym out ∙ w)) }
-
-pub bounds-steps-k : goal.bounds-steps-k
-bounds-steps-k c = let S = c.before.before.before.before.before.before.before.before in omega (arith, S.requires.1, S.requires.2)
+    ∙ rw (← c.length_after.ensures.0)
 
 -- an index inside its axis is small, and a step is limited
-product : (c : goal.After-limited invariant-loop decreases-loop)
-    → let lo = c.before.before.before.before.before.before in
-    let a = lo.before.before.before.args in
-    get_or a.index.now lo.loop.k 0 * c.limited.result ≤ 32767 * (image_limit + 1)
+product : (c : tie.After-limited invariant-loop decreases-loop) → let lo = c.before.before.before.before.before.before in let a = lo.before.before.before.args in get_or a.index.now lo.loop.k 0 * c.limited.result ≤ 32767 * (image_limit + 1)
 product c =
     let e = c.limited.ensures in
     let l = c.before.before.before in
     let i = c.before.before.if1.false in
-    mul-le-mul {n₂ = 32767} {m₂ = image_limit + 1} (omega (arith, l.length-after.ensures.1)) (omega arith)
+    mul-le-mul {n₂ = 32767} {m₂ = image_limit + 1} (omega (arith, l.length_after.ensures.1)) (omega arith)
+
+pub loop-k-init : goal.loop-k-init
+loop-k-init c = (omega arith, omega arith, refl, omega arith)
+
+pub length_after-requires : goal.length_after-requires
+length_after-requires c = omega (arith, c.requires.2)
+
+pub returns-then-length_after-i : goal.returns-then-length_after-i
+returns-then-length_after-i c =
+    let a = c.args in
+    let out : within (seven_axes a.dim.now a.n) a.index.now ≡ false = rw (next c, le-ltb _ _ c.if-length_after-i.true) in
+    record { outside = λ _. refl; inside = λ w. absurd (false≢true (sym out ∙ w)); small = λ w. absurd (false≢true (sym out ∙ w)) }
+
+pub bounds-steps-k : goal.bounds-steps-k
+bounds-steps-k c = omega (arith, c.requires.1, c.requires.2)
 
 pub overflow_mul-sum : goal.overflow_mul-sum
 overflow_mul-sum c = record { fits = omega (arith, product c) }
@@ -75,46 +66,40 @@ overflow_add-sum c = record { fits = omega (arith, product c) }
 
 pub loop-k-smaller : goal.loop-k-smaller
 loop-k-smaller c =
-    let S = c.before.before.before.before.before.before.before.before.before in
-    let few = S.requires.2 in
+    let few = c.requires.2 in
     omega arith
 
 pub loop-k-preserved : goal.loop-k-preserved
 loop-k-preserved c =
-    let l = c.before.before.before in
-    let lo = l.before.before.before in
-    let S = lo.before.before.before in
-    let steps = S.args.steps.now in
-    let index = S.args.index.now in
-    let k = lo.loop-k.k in
-    let seven = S.requires.1 in
-    let few = S.requires.2 in
-    let below : get_or index k 0 < l.length_after.result = omega arith in
+    let steps = c.args.steps.now in
+    let index = c.args.index.now in
+    let k = c.loop-k.k in
+    let seven = c.requires.1 in
+    let few = c.requires.2 in
+    let below : get_or index k 0 < c.length_after.result = omega arith in
     let left = bytes_before (drop (k + 1) steps) (drop (k + 1) index) in
     let split = before_next steps index k (omega arith) (omega arith) in (
       omega arith,
-      more k lo.loop-k.sum _ lo.loop-k.invariant.1 (product c),
-      next l ∙ rw (lt-ltb _ _ below),
-      rw c.limited.ensures (capped-sum lo.loop-k.sum (get_or index k 0) (get_or steps k 0) left)
-          ∙ ap (λ (m : ℕ). capped (lo.loop-k.sum + m)) (sym split)
-          ∙ lo.loop-k.invariant.3,
+      more k c.loop-k.sum _ c.loop-k.invariant.1 (product c),
+      next c ∙ rw (lt-ltb _ _ below),
+      rw c.limited.ensures (capped-sum c.loop-k.sum (get_or index k 0) (get_or steps k 0) left)
+          ∙ ap (λ (m : ℕ). capped (c.loop-k.sum + m)) (sym split)
+          ∙ c.loop-k.invariant.3,
     )
 
 pub returns : goal.returns
 returns c =
-    let lo = c.before in
-    let S = lo.before.before.before in
-    let a = S.args in
+    let a = c.args in
     let steps = a.steps.now in
     let index = a.index.now in
     let l = seven_axes a.dim.now a.n in
-    let end : lo.loop-k.k ≡ 7 = omega (arith, S.requires.2) in
-    let seven = seven_length a.dim.now a.n S.requires.0 in
+    let end : c.loop-k.k ≡ 7 = omega (arith, c.requires.2) in
+    let seven = seven_length a.dim.now a.n c.requires.0 in
     let inside : within l index ≡ true =
-    lo.loop-k.invariant.2 ∙ within_end l index lo.loop-k.k (omega arith) (omega (arith, S.requires.2)) in
-    let none = before_end steps index lo.loop-k.k (omega (arith, S.requires.1)) in
+    c.loop-k.invariant.2 ∙ within_end l index c.loop-k.k (omega arith) (omega (arith, c.requires.2)) in
+    let none = before_end steps index c.loop-k.k (omega (arith, c.requires.1)) in
     record {
       outside = λ w. absurd (false≢true (sym w ∙ inside));
-      inside = λ _. rw (none, add-zero) at lo.loop-k.invariant.3;
-      small = λ _. rw end at lo.loop-k.invariant.1;
+      inside = λ _. rw (none, add-zero) at c.loop-k.invariant.3;
+      small = λ _. rw end at c.loop-k.invariant.1;
     }

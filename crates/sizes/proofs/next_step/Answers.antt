@@ -5,16 +5,14 @@ use borrow.Author.Tests.{lt-ltb, le-ltb}
 use Rattle.sizes.proofs.next_step.Goals as goal
 
 pub returns-then-n-axis : goal.returns-then-n-axis
-returns-then-n-axis c = let s = c.before in rw (lt-ltb s.args.n s.args.axis c.if-n-axis.true)
+returns-then-n-axis c = rw (lt-ltb c.args.n c.args.axis c.if-n-axis.true)
 
 pub overflow_mul-result : goal.overflow_mul-result
 overflow_mul-result c =
-    let s = c.before.before in
-    let small = s.requires (le-ltb s.args.n s.args.axis (omega arith)) in
+    let small = c.requires (le-ltb c.args.n c.args.axis (omega arith)) in
     let e = c.axis_length.ensures.0 in
     rw e (record { fits = omega arith })
 
 pub returns : goal.returns
 returns c =
-    let s = c.before.before in
-    rw (le-ltb s.args.n s.args.axis (omega arith), c.axis_length.ensures.0)
+    rw (le-ltb c.args.n c.args.axis (omega arith), c.axis_length.ensures.0)

@@ -14,18 +14,15 @@ loop-k-init c = (omega arith, refl)
 
 pub returns-then-a-k : goal.returns-then-a-k
 returns-then-a-k c =
-    let lo = c.before.before in
-    let a = lo.args in
-    sym (lo.loop-k.invariant.1 ∙ same_next a.t1 a.t2 lo.loop-k.k (omega arith) (omega arith) ∙ rw (ne_eqb _ _ c.if-a-k.true))
+    let a = c.args in
+    sym (c.loop-k.invariant.1 ∙ same_next a.t1 a.t2 c.loop-k.k (omega arith) (omega arith) ∙ rw (ne_eqb _ _ c.if-a-k.true))
 
 pub loop-k-preserved : goal.loop-k-preserved
 loop-k-preserved c =
-    let lo = c.before.before in
-    let a = lo.args in
-    (omega arith, lo.loop-k.invariant.1 ∙ same_next a.t1 a.t2 lo.loop-k.k (omega arith) (omega arith) ∙ rw (eq-eqb _ _ c.if-a-k.false))
+    let a = c.args in
+    (omega arith, c.loop-k.invariant.1 ∙ same_next a.t1 a.t2 c.loop-k.k (omega arith) (omega arith) ∙ rw (eq-eqb _ _ c.if-a-k.false))
 
 pub returns : goal.returns
 returns c =
-    let lo = c.before in
-    let a = lo.args in
-    sym (lo.loop-k.invariant.1 ∙ same_end a.t1 a.t2 lo.loop-k.k (omega arith) (omega arith))
+    let a = c.args in
+    sym (c.loop-k.invariant.1 ∙ same_end a.t1 a.t2 c.loop-k.k (omega arith) (omega arith))

@@ -7,14 +7,14 @@ use mir.ValLaws.{to_z-of_z}
 use Rattle.number.specs.Natural.{natural_of}
 use Rattle.sizes.proofs.sizes_in.Goals as goal
 
--- bitpix as it was passed on
-bytes-are : (c : goal.After-natural) → c.natural.result / 8 ≡ natural_of c.args.bitpix / 8
-bytes-are c =
-    let S = c.before.before.before.before in
-    ap (λ (n : ℕ). n / 8) (rw (to_z-of_z w16 S.args.bitpix S.ranges.bitpix) at c.natural.ensures.0)
-
 pub sizes_of-requires : goal.sizes_of-requires
-sizes_of-requires c = rw (c.axis_length-n.ensures.0, bytes-are c) c.requires
+sizes_of-requires c =
+    let bytes-are : c.natural.result / 8 ≡ natural_of c.args.bitpix / 8 =
+        ap (λ (n : ℕ). n / 8) (rw (to_z-of_z w16 c.args.bitpix c.ranges.bitpix) at c.natural.ensures.0) in
+    rw (c.axis_length-n.ensures.0, bytes-are) c.requires
 
 pub returns : goal.returns
-returns c = rw (c.axis_length-n.ensures.0, bytes-are c.before) at c.sizes_of.ensures
+returns c =
+    let bytes-are : c.natural.result / 8 ≡ natural_of c.args.bitpix / 8 =
+        ap (λ (n : ℕ). n / 8) (rw (to_z-of_z w16 c.args.bitpix c.ranges.bitpix) at c.natural.ensures.0) in
+    rw (c.axis_length-n.ensures.0, bytes-are) at c.sizes_of.ensures

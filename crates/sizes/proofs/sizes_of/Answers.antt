@@ -17,15 +17,13 @@ loop-k-init c = (omega arith, sym (first_step_lem c.args.dim.now c.args.n c.args
 pub next_step-after-requires : goal.next_step-after-requires
 next_step-after-requires c =
     let l = c.loop-k in
-    let S = c.before.before in
-    let a = S.args in
-    rw (l.invariant.1, add-one l.k) (λ e. step_small a.dim.now a.n a.bytes S.requires l.k e)
+    let a = c.args in
+    rw (l.invariant.1, add-one l.k) (λ e. step_small a.dim.now a.n a.bytes c.requires l.k e)
 
 pub loop-k-preserved : goal.loop-k-preserved
 loop-k-preserved c =
-    let lo = c.before.before in
-    let l = lo.loop-k in
-    let a = lo.args in
+    let l = c.loop-k in
+    let a = c.args in
     let dim = a.dim.now in (
       omega arith,
       c.next_step-after.ensures ∙ rw (l.invariant.1, add-one l.k) (next_step dim a.n a.bytes l.k),
@@ -36,11 +34,10 @@ pub returns : goal.returns
 unfolding sizes_by
 returns c =
     let l = c.loop-k in
-    let s = c.before.before in
-    let a = s.args in
+    let a = c.args in
     let dim = a.dim.now in
     let end : l.k ≡ 7 = omega arith in
-    let total = l.invariant.1 ∙ ap (step_after dim a.n a.bytes) end ∙ last_step dim a.n a.bytes s.requires in
+    let total = l.invariant.1 ∙ ap (step_after dim a.n a.bytes) end ∙ last_step dim a.n a.bytes c.requires in
     let steps =
     l.invariant.2
     ∙ ap (λ (k : ℕ). steps_to dim a.n a.bytes k ++ replicate (7 - k) 0) end

@@ -10,16 +10,13 @@ use Rattle.slice_position.proofs.acquisition_in.Goals as goal
 pub returns : goal.returns
 unfolding acquisition_in
 returns c =
-    let e = c.before.before in
-    let b = e.before in
-    let d = b.before.before in
-    let file = d.args.file.now in
+    let file = c.args.file.now in
     λ i.
     record {
-      dim = d.dims.ensures i;
+      dim = c.dims.ensures i;
       dim_info = get_or file 39 0;
-      slice_start = (to_z-of_z w16 b.read_i16.result (record { sfits = b.read_i16.type_inv }) ∙ b.read_i16.ensures) i;
-      slice_end = (to_z-of_z w16 e.read_i16-2.result (record { sfits = e.read_i16-2.type_inv }) ∙ e.read_i16-2.ensures) i;
+      slice_start = (to_z-of_z w16 c.read_i16.result (record { sfits = c.read_i16.type_inv }) ∙ c.read_i16.ensures) i;
+      slice_end = (to_z-of_z w16 c.read_i16-2.result (record { sfits = c.read_i16-2.type_inv }) ∙ c.read_i16-2.ensures) i;
       slice_code = get_or file 122 0;
       slice_duration = c.read_u32.ensures i;
     }

@@ -9,13 +9,11 @@ use Rattle.slice_position.proofs.sform_in.Goals as goal
 pub returns : goal.returns
 unfolding sform_in
 returns c =
-    let y = c.before in
-    let b = y.before.before in
     λ i.
     record {
-      dim = b.dims.ensures i;
-      sform_code = (to_z-of_z w16 b.read_i16.result (record { sfits = b.read_i16.type_inv }) ∙ b.read_i16.ensures) i;
-      srow_x = y.u32x4.ensures i;
-      srow_y = y.u32x4-2.ensures i;
+      dim = c.dims.ensures i;
+      sform_code = (to_z-of_z w16 c.read_i16.result (record { sfits = c.read_i16.type_inv }) ∙ c.read_i16.ensures) i;
+      srow_x = c.u32x4.ensures i;
+      srow_y = c.u32x4-2.ensures i;
       srow_z = c.u32x4-3.ensures i;
     }

@@ -11,10 +11,8 @@ use Rattle.store.proofs.put_bytes.Goals as goal
 
 pub loop-i-preserved : goal.loop-i-preserved
 loop-i-preserved c =
-    let p = c.before.before in
-    let q = p.before in
     let inv = c.loop-i.invariant in
-    (omega arith, p.put_byte.auto.buf ∙ inv.1, rw (p.put_byte.ensures, q.byte_at.ensures) (byte_turn _ _ _ _ _ inv.2))
+    (omega arith, c.put_byte.auto.buf ∙ inv.1, rw (c.put_byte.ensures, c.byte_at.ensures) (byte_turn _ _ _ _ _ inv.2))
 
 pub returns : goal.returns
 unfolding padded

@@ -6,5 +6,4 @@ use Rattle.store.proofs.put_i16.Goals as goal
 
 pub returns : goal.returns
 returns c =
-    let s = c.before.before.before.before.before.before in
-    rw (c.bits16.ensures, to_z-of_z w16 s.args.z s.ranges.z) at c.put_u16.ensures
+    rw (c.bits16.ensures, to_z-of_z w16 c.args.z c.ranges.z) at c.put_u16.ensures

@@ -16,14 +16,12 @@ use Rattle.store.proofs.put_i16s.Goals as goal
 pub loop-i-preserved : goal.loop-i-preserved
 unfolding bytes_of padded
 loop-i-preserved c =
-    let p = c.before.before in
-    let q = p.before in
     let a = c.args in
     let inv = c.loop-i.invariant in
-    let value = to_z-of_z w16 q.i16_of.result (record { sfits = q.i16_of.type_inv }) in (
+    let value = to_z-of_z w16 c.i16_of.result (record { sfits = c.i16_of.type_inv }) in (
       omega arith,
-      p.put_i16.auto.buf ∙ inv.1,
-      rw (p.put_i16.ensures, value, q.i16_of.ensures)
+      c.put_i16.auto.buf ∙ inv.1,
+      rw (c.put_i16.ensures, value, c.i16_of.ensures)
           (run_turn (λ k. bytes_of a.order 2 (of_z w16 (get_or a.src.now k (pos 0)))) 2 (λ i. refl) _ _ _ _ inv.2),
     )
 

@@ -6,5 +6,4 @@ use Rattle.store.proofs.put_i32.Goals as goal
 
 pub returns : goal.returns
 returns c =
-    let s = c.before.before.before.before.before.before in
-    rw (c.bits32.ensures, to_z-of_z w32 s.args.z s.ranges.z) at c.put_u32.ensures
+    rw (c.bits32.ensures, to_z-of_z w32 c.args.z c.ranges.z) at c.put_u32.ensures

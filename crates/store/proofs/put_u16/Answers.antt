@@ -7,13 +7,9 @@ use Rattle.store.proofs.put_u16.Goals as goal
 pub returns-in-Little : goal.returns-in-Little
 unfolding bytes_of padded
 returns-in-Little c =
-    let c2 = c.before.before in
-    let c1 = c2.before.before.before.before in
-    rw (c2.put_byte-in-Little.ensures, c1.put_byte.ensures, c1.in-Little.is) (simp one_on)
+    rw (c.put_byte-in-Little.ensures, c.put_byte.ensures, c.in-Little.is) (simp one_on)
 
 pub returns-in-Big : goal.returns-in-Big
 unfolding bytes_of padded
 returns-in-Big c =
-    let c2 = c.before.before in
-    let c1 = c2.before.before.before.before in
-    rw (c2.put_byte-in-Big-2.ensures, c1.put_byte-in-Big.ensures, c1.in-Big.is) (simp one_on)
+    rw (c.put_byte-in-Big-2.ensures, c.put_byte-in-Big.ensures, c.in-Big.is) (simp one_on)

@@ -12,13 +12,11 @@ use Rattle.store.proofs.put_u32s.Goals as goal
 pub loop-i-preserved : goal.loop-i-preserved
 unfolding bytes_of padded
 loop-i-preserved c =
-    let p = c.before.before in
-    let q = p.before in
     let a = c.args in
     let inv = c.loop-i.invariant in (
       omega arith,
-      p.put_u32.auto.buf ∙ inv.1,
-      rw (p.put_u32.ensures, q.u32_of.ensures)
+      c.put_u32.auto.buf ∙ inv.1,
+      rw (c.put_u32.ensures, c.u32_of.ensures)
           (run_turn (λ k. bytes_of a.order 4 (get_or a.src.now k 0)) 4 (λ i. refl) _ _ _ _ inv.2),
     )
 

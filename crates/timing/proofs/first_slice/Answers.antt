@@ -6,8 +6,7 @@ use Rattle.number.specs.Natural.{natural_of}
 use borrow.Author.Rules.{rules}
 use Rattle.timing.proofs.first_slice.Goals as goal
 
-same : (c : goal.After-struct_told-1) → let z = c.args.a.slice_start in to_z w16 (of_z w16 z) ≡ z
-same c = search rules
-
 pub returns : goal.returns
-returns c = (c.natural.ensures.0 ∙ ap natural_of (same c.before), c.natural.ensures.1)
+returns c =
+    let same : let z = c.args.a.slice_start in to_z w16 (of_z w16 z) ≡ z = search rules in
+    (c.natural.ensures.0 ∙ ap natural_of same, c.natural.ensures.1)

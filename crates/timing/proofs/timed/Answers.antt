@@ -6,18 +6,12 @@ use Rattle.timing.specs.Slices.{timed_by}
 use borrow.Author.Rules.{rules}
 use Rattle.timing.proofs.timed.Goals as goal
 
-answer-is : (c : goal.After-time_of-time)
-    → let a = c.args in
-    let rank = rank_in a.code a.start a.end a.s in
-    timed_by c.rank-rank.result c.time_of-time.result ≡ timed_by rank (time_of a.duration rank)
-answer-is c = rw (c.time_of-time.ensures, c.rank-rank.ensures)
-
 pub returns-in-Finite : goal.returns-in-Finite
 returns-in-Finite c =
-    let t = c.before in
-    ap (timed_by t.rank-rank.result) (sym c.in-Finite.is) ∙ answer-is t
+    let answer-is : let a = c.args in let rank = rank_in a.code a.start a.end a.s in timed_by c.rank-rank.result c.time_of-time.result ≡ timed_by rank (time_of a.duration rank) = rw (c.time_of-time.ensures, c.rank-rank.ensures) in
+    ap (timed_by c.rank-rank.result) (sym c.in-Finite.is) ∙ answer-is
 
 pub returns-in-Infinite : goal.returns-in-Infinite
 returns-in-Infinite c =
-    let t = c.before in
-    ap (timed_by t.rank-rank.result) (sym c.in-Infinite.is) ∙ answer-is t
+    let answer-is : let a = c.args in let rank = rank_in a.code a.start a.end a.s in timed_by c.rank-rank.result c.time_of-time.result ≡ timed_by rank (time_of a.duration rank) = rw (c.time_of-time.ensures, c.rank-rank.ensures) in
+    ap (timed_by c.rank-rank.result) (sym c.in-Infinite.is) ∙ answer-is

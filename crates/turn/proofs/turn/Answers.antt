@@ -6,13 +6,11 @@ use Rattle.turn.proofs.turn.Goals as goal
 
 pub turn_shown-requires : goal.turn_shown-requires
 turn_shown-requires c =
-    let o = c.before.before.before in
-    sym o.outline_of-outlined.ensures ∙ o.in-Shown.is
+    sym c.outline_of-outlined.ensures ∙ c.in-Shown.is
 
 pub returns-in-Hidden : goal.returns-in-Hidden
 returns-in-Hidden c =
     let hidden = c.outlined-1.given in
-    let o = c.before in
-    let a = o.args in
-    let e = sym o.outline_of-outlined.ensures ∙ hidden.1 in
-    turns_hidden a.file.now a.image.now a.t a.out.now a.out-image.now hidden.0.0 e
+    let a = c.args in
+    let e = sym c.outline_of-outlined.ensures ∙ hidden.1 in
+    turns_hidden a.file.now a.image.now a.t a.out.now a.out_image.now hidden.0.0 e

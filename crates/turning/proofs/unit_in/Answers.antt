@@ -9,19 +9,14 @@ use Rattle.field.specs.Numbers.{i16_at}
 use borrow.Author.Rules.{rules}
 use Rattle.turning.proofs.unit_in.Goals as goal
 
--- the code that is looked up is the file's
-code : (c : goal.After-read_i16)
-    → to_z w16 (of_z w16 c.read_i16.result) ≡ i16_at c.args.order c.args.file.now 70
-code c = to_z-of_z w16 c.read_i16.result (record { sfits = c.read_i16.type_inv }) ∙ c.read_i16.ensures
-
 pub returns-in-Known : goal.returns-in-Known
 unfolding unit_in
 returns-in-Known c =
-    let d = c.before in
-    ap unit_of (sym c.in-Known.is ∙ d.datatype_of-datatype.ensures ∙ ap datatype_of (code d.before))
+    let code : to_z w16 (of_z w16 c.read_i16.result) ≡ i16_at c.args.order c.args.file.now 70 = to_z-of_z w16 c.read_i16.result (record { sfits = c.read_i16.type_inv }) ∙ c.read_i16.ensures in
+    ap unit_of (sym c.in-Known.is ∙ c.datatype_of-datatype.ensures ∙ ap datatype_of code)
 
 pub returns-in-Unknown : goal.returns-in-Unknown
 unfolding unit_in
 returns-in-Unknown c =
-    let d = c.before in
-    ap unit_of (sym c.in-Unknown.is ∙ d.datatype_of-datatype.ensures ∙ ap datatype_of (code d.before))
+    let code : to_z w16 (of_z w16 c.read_i16.result) ≡ i16_at c.args.order c.args.file.now 70 = to_z-of_z w16 c.read_i16.result (record { sfits = c.read_i16.type_inv }) ∙ c.read_i16.ensures in
+    ap unit_of (sym c.in-Unknown.is ∙ c.datatype_of-datatype.ensures ∙ ap datatype_of code)

@@ -14,19 +14,18 @@ pub loop-left-init : goal.loop-left-init
 loop-left-init c = (c.requires, (refl, refl))
 
 pub overflow_add-next : goal.overflow_add-next
-overflow_add-next c = omega (arith, bytes_left c.loop-left.false c.args.unit (omega arith))
+overflow_add-next c = omega (arith, bytes_left c.loop-left.left c.args.unit (omega arith))
 
 pub reverse-requires : goal.reverse-requires
 reverse-requires c =
-    omega (arith, bytes_left c.loop-left.false c.args.unit (omega arith))
+    omega (arith, bytes_left c.loop-left.left c.args.unit (omega arith))
 
 pub loop-left-preserved : goal.loop-left-preserved
 loop-left-preserved c =
-    let at-loop = c.before.before.before.before.before in
-    let v = at-loop.loop-left in
-    let u = at-loop.args.unit in
+    let v = c.loop-left in
+    let u = c.args.unit in
     let after = c.reverse in
-    let one = after.ensures ∙ turned-reverse u v.at v.buf in
+    let one = after.ensures.after ∙ turned-reverse u v.at v.buf in
     let next = rw one-mul at (turned_next u v.at 1 v.left v.buf after.new.0 (omega arith) v.invariant.0 one) in
     let room = bytes_left v.left u (omega arith) in
     (omega (arith, room, after.auto.0), (after.auto.0 ∙ v.invariant.1.0, v.invariant.1.1 ∙ next))

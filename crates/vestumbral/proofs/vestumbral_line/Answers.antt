@@ -6,5 +6,4 @@ use Rattle.vestumbral.proofs.vestumbral_line.Goals as goal
 
 pub returns : goal.returns
 returns c =
-    let e = c.before.before.before in
-    (c.line_reply.ensures ∙ ap line_reply e.line-lined.ensures.0, e.line-lined.ensures.1)
+    (c.line_reply.ensures ∙ ap line_reply c.line-lined.ensures.0, c.line-lined.ensures.1)

@@ -6,5 +6,4 @@ use Rattle.vestumbral.proofs.vestumbral_line_by_voxel.Goals as goal
 
 pub returns : goal.returns
 returns c =
-    let e = c.before.before.before in
-    (c.line_reply.ensures ∙ ap line_reply e.line_by_voxel-lined.ensures.0, e.line_by_voxel-lined.ensures.1)
+    (c.line_reply.ensures ∙ ap line_reply c.line_by_voxel-lined.ensures.0, c.line_by_voxel-lined.ensures.1)

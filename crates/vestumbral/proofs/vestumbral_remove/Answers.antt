@@ -6,5 +6,4 @@ use Rattle.vestumbral.proofs.vestumbral_remove.Goals as goal
 
 pub returns : goal.returns
 returns c =
-    let e = c.before.before.before in
-    (c.edit_reply.ensures ∙ ap edit_reply e.remove-edited.ensures.0, e.remove-edited.ensures.1)
+    (c.edit_reply.ensures ∙ ap edit_reply c.remove-edited.ensures.answer, c.remove-edited.ensures.content)

@@ -8,7 +8,5 @@ use Rattle.vestumbral.proofs.vestumbral_replace.Goals as goal
 
 pub returns : goal.returns
 returns c =
-    let e = c.before.before.before in
-    let S = e.before.before.before.before in
-    let same = to_z-of_z w32 S.args.code S.ranges.code in
-    (c.edit_reply.ensures ∙ ap edit_reply (rw same at e.replace-edited.ensures.0), rw same at e.replace-edited.ensures.1)
+    let same = to_z-of_z w32 c.args.code c.ranges.code in
+    (c.edit_reply.ensures ∙ ap edit_reply (rw same at c.replace-edited.ensures.answer), rw same at c.replace-edited.ensures.content)

@@ -6,5 +6,4 @@ use Rattle.vestumbral.proofs.vestumbral_swap.Goals as goal
 
 pub returns : goal.returns
 returns c =
-    let e = c.before.before.before.before.before in
-    (c.swap_reply.ensures ∙ ap swap_reply e.swap-verdict.ensures.0, e.swap-verdict.ensures.1, e.swap-verdict.ensures.2)
+    (c.swap_reply.ensures ∙ ap swap_reply c.swap-verdict.ensures.0, c.swap-verdict.ensures.1, c.swap-verdict.ensures.2)

@@ -6,5 +6,4 @@ use Rattle.vestumbral.proofs.vestumbral_swap_by_unit.Goals as goal
 
 pub returns : goal.returns
 returns c =
-    let e = c.before.before.before.before.before in
-    (c.swap_reply.ensures ∙ ap swap_reply e.swap_by_unit-verdict.ensures.0, e.swap_by_unit-verdict.ensures.1, e.swap_by_unit-verdict.ensures.2)
+    (c.swap_reply.ensures ∙ ap swap_reply c.swap_by_unit-verdict.ensures.0, c.swap_by_unit-verdict.ensures.1, c.swap_by_unit-verdict.ensures.2)

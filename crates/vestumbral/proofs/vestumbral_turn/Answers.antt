@@ -6,6 +6,5 @@ use Rattle.vestumbral.proofs.vestumbral_turn.Goals as goal
 
 pub returns : goal.returns
 returns c =
-    let e = c.before.before.before.before.before in
-    let made = rw c.turn_of-t.ensures at e.turn-turned.ensures in
+    let made = rw c.turn_of-t.ensures at c.turn-turned.ensures in
     (c.turned_answer.ensures ∙ ap turned_answer made.0, (made.1, made.2))

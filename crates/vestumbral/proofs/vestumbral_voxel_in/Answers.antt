@@ -16,10 +16,8 @@ returns-then-file-ne0 c = rw (ne_eqb c.args.t1.refusal 0 c.if-file-ne0.true) c.o
 pub returns : goal.returns
 unfolding voxel_in
 returns c =
-    let l = c.before in
-    let k = l.before.before.before.before.before.before.before in
-    let a = k.args in
+    let a = c.args in
     let f = a.t1 in
     let index = a.i1 ∷ a.i2 ∷ a.i3 ∷ a.i4 ∷ a.i5 ∷ a.i6 ∷ a.i7 ∷ [] in
-    let by = ap (λ (x : Kind). stepped_by (volume f.dim f.data_offset f.data_bytes f.step x) a.image-len index) k.kind_by-kind.ensures in
-    rw (eq-eqb f.refusal 0 k.if-file-ne0.false) (c.voxel_reply.ensures ∙ ap voxel_reply (l.locate_at-located.ensures ∙ by))
+    let by = ap (λ (x : Kind). stepped_by (volume f.dim f.data_offset f.data_bytes f.step x) a.image_len index) c.kind_by-kind.ensures in
+    rw (eq-eqb f.refusal 0 c.if-file-ne0.false) (c.voxel_reply.ensures ∙ ap voxel_reply (c.locate_at-located.ensures ∙ by))

@@ -10,22 +10,18 @@ use borrow.Author.Rules.{rules}
 use Rattle.voxel.proofs.locate_record.Goals as goal
 
 pub locate_at-requires : goal.locate_at-requires
-locate_at-requires c = (omega (arith, slice-aggregate-locate-at c.before.before), omega (arith, slice-aggregate-locate-at-2 c.before), omega (arith, slice-aggregate-locate-at-3 c))
+locate_at-requires c = (omega (arith, slice-aggregate-locate-at c), omega (arith, slice-aggregate-locate-at-2 c), omega (arith, slice-aggregate-locate-at-3 c))
 
 pub returns-in-Refused : goal.returns-in-Refused
 returns-in-Refused c =
-    let o = c.before.before.before in
-    let d = o.before in
-    let a = d.args in
-    ap Unlocated c.misplaced.ensures ∙ in_refused a.header a.len a.t3 o.in-Refused.r (sym d.decode-offset.ensures ∙ o.in-Refused.is)
+    let a = c.args in
+    ap Unlocated c.misplaced.ensures ∙ in_refused a.header a.len a.t3 c.in-Refused.r (sym c.decode-offset.ensures ∙ c.in-Refused.is)
 
 pub returns-in_default : goal.returns-in_default
 returns-in_default c =
-    let w = c.before.before.before.before in
-    let d = w.before.before in
-    let a = d.args in
+    let a = c.args in
     let h = a.header in
     c.locate_at.ensures
-    ∙ ap (λ (n : ℕ). stepped_by (volume h.dim n h.sizes.total h.sizes.steps h.kind) a.len a.t3) w.whole_in-at.ensures
-    ∙ in_whole h a.len a.t3 d.decode-offset.result (sym d.decode-offset.ensures)
-    (λ r e. ⊎_elim (λ k. omega arith) (λ k. omega arith) (rw e at w.in_default.in_default-own.keys2))
+    ∙ ap (λ (n : ℕ). stepped_by (volume h.dim n h.sizes.total h.sizes.steps h.kind) a.len a.t3) c.whole_in-at.ensures
+    ∙ in_whole h a.len a.t3 c.decode-offset.result (sym c.decode-offset.ensures)
+    (λ r e. ⊎_elim (λ k. omega arith) (λ k. omega arith) (rw e at c.in_default.in_default-own.keys2))

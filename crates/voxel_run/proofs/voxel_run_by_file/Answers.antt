@@ -12,14 +12,13 @@ loop-k-init c = (omega arith, sym (most_none _))
 
 pub loop-k-preserved : goal.loop-k-preserved
 loop-k-preserved c =
-    let lo = c.before.before.before.before.before in (
+    (
       omega arith,
-      most_next _ lo.loop-k.k lo.loop-k.invariant.1
+      most_next _ c.loop-k.k c.loop-k.invariant.1
           c.locate-located.ensures c.place_of.ensures c.greater-most.ensures,
     )
 
 pub returns : goal.returns
 returns c =
-    let lo = c.before in
-    let end : lo.loop-k.k ≡ lo.args.count = omega arith in
-    rw end at lo.loop-k.invariant.1
+    let end : c.loop-k.k ≡ c.args.count = omega arith in
+    rw end at c.loop-k.invariant.1

@@ -6,14 +6,12 @@ use Rattle.voxel_run.proofs.voxel_run_by_record.Goals as goal
 
 pub returns-in-Refused : goal.returns-in-Refused
 returns-in-Refused c =
-    let r = c.before in
-    let a = r.args in
+    let a = c.args in
     let e = c.enum_told-1.given in
-    sym (farthest_refused a.file.now a.count e.0.0 (rw r.read-reading.ensures at e.1))
+    sym (farthest_refused a.file.now a.count e.0.0 (rw c.read-reading.ensures at e.1))
 
 pub returns-in-Accepted : goal.returns-in-Accepted
 returns-in-Accepted c =
-    let r = c.before.before.before in
-    let a = r.args in
-    (rw r.read-reading.ensures at c.run_in.ensures)
-    ∙ sym (farthest_accepted a.file.now a.count (rw r.read-reading.ensures at c.in-Accepted.is))
+    let a = c.args in
+    (rw c.read-reading.ensures at c.run_in.ensures)
+    ∙ sym (farthest_accepted a.file.now a.count (rw c.read-reading.ensures at c.in-Accepted.is))

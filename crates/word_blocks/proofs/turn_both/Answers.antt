@@ -8,11 +8,8 @@ use Rattle.word_blocks.proofs.turn_both.Goals as goal
 
 pub returns : goal.returns
 returns c =
-    let words = c.before.before in
-    let pairs = words.before.before.before.before in
-    let start = pairs.before.before.before in
-    let a = start.args in
-    let w = start.requires.0 in
+    let a = c.args in
+    let w = c.requires.0 in
     rw (← wide_twice w)
-    (turned_join a.unit a.at 16 (16 / a.unit) (16 / a.unit) a.buf.now pairs.turn_pairs.new.0 words.turn_words.new.0 (wide_sixteen w)
-    (omega (arith, start.requires.1)) pairs.turn_pairs.ensures words.turn_words.ensures)
+    (turned_join a.unit a.at 16 (16 / a.unit) (16 / a.unit) a.buf.now c.turn_pairs.new.0 c.turn_words.new.0 (wide_sixteen w)
+    (omega (arith, c.requires.1)) c.turn_pairs.ensures c.turn_words.ensures)

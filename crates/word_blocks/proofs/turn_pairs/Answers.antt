@@ -11,118 +11,80 @@ use Rattle.word_blocks.proofs.Blocks.{part_at, pairs_fours, pairs_eights, pairs_
 use borrow.Author.Rules.{rules}
 use Rattle.word_blocks.proofs.turn_pairs.Goals as goal
 
--- the eight pairs, as they were loaded and turned round
-module _ (p8 : goal.After-turned_at-h) where
-  abbrev p7 : goal.After-turned_at-g
-  p7 = p8.before.before
-
-  abbrev p6 : goal.After-turned_at-f
-  p6 = p7.before.before
-
-  abbrev p5 : goal.After-turned_at-e
-  p5 = p6.before.before
-
-  abbrev p4 : goal.After-turned_at-d
-  p4 = p5.before.before
-
-  abbrev p3 : goal.After-turned_at-c
-  p3 = p4.before.before
-
-  abbrev p2 : goal.After-turned_at-b
-  p2 = p3.before.before
-
-  abbrev p1 : goal.After-turned_at-a
-  p1 = p2.before.before
-
-  abbrev start : goal.Start
-  start = p1.before.before.before
-
-  abbrev at : ℕ
-  at = start.args.at
-
-  abbrev s : List ℕ
-  s = start.args.buf.now
-
-  abbrev a : ℕ
-  a = p1.turned-at.result
-
-  abbrev b : ℕ
-  b = p2.turned-at2.result
-
-  abbrev c : ℕ
-  c = p3.turned-at3.result
-
-  abbrev d : ℕ
-  d = p4.turned-at4.result
-
-  abbrev e : ℕ
-  e = p5.turned-at5.result
-
-  abbrev f : ℕ
-  f = p6.turned-at6.result
-
-  abbrev g : ℕ
-  g = p7.turned-at7.result
-
-  abbrev h : ℕ
-  h = p8.turned-at8.result
-
-  first : pair_bytes a ≡ reverse (take 2 (drop 0 (drop at s)))
-  first = part_at s at start.pre.1 2 0 (rw (add-zero at) p1.turned-at.ensures)
-
-  second : pair_bytes b ≡ reverse (take 2 (drop 2 (drop at s)))
-  second = part_at s at start.pre.1 2 2 p2.turned-at2.ensures
-
-  third : pair_bytes c ≡ reverse (take 2 (drop 4 (drop at s)))
-  third = part_at s at start.pre.1 2 4 p3.turned-at3.ensures
-
-  fourth : pair_bytes d ≡ reverse (take 2 (drop 6 (drop at s)))
-  fourth = part_at s at start.pre.1 2 6 p4.turned-at4.ensures
-
-  fifth : pair_bytes e ≡ reverse (take 2 (drop 8 (drop at s)))
-  fifth = part_at s at start.pre.1 2 8 p5.turned-at5.ensures
-
-  sixth : pair_bytes f ≡ reverse (take 2 (drop 10 (drop at s)))
-  sixth = part_at s at start.pre.1 2 10 p6.turned-at6.ensures
-
-  seventh : pair_bytes g ≡ reverse (take 2 (drop 12 (drop at s)))
-  seventh = part_at s at start.pre.1 2 12 p7.turned-at7.ensures
-
-  eighth : pair_bytes h ≡ reverse (take 2 (drop 14 (drop at s)))
-  eighth = part_at s at start.pre.1 2 14 p8.turned-at8.ensures
-
 pub returns-in-4 : goal.returns-in-4
 returns-in-4 c =
-    let second-put = end.before.before in
-    let first-put = second-put.before.before.before.before in
-    let chosen = first-put.before.before in
-    let p = chosen.before in
+    let at = c.args.at in
+    let s = c.args.buf.now in
+    let a = c.turned_at.result in
+    let b = c.turned-at2.result in
+    let c = c.turned-at3.result in
+    let d = c.turned-at4.result in
+    let e = c.turned-at5.result in
+    let f = c.turned-at6.result in
+    let g = c.turned-at7.result in
+    let h = c.turned_at-h.result in
+    let first : pair_bytes a ≡ reverse (take 2 (drop 0 (drop at s))) = part_at s at c.pre.1 2 0 (rw (add-zero at) c.turned_at.ensures) in
+    let second : pair_bytes b ≡ reverse (take 2 (drop 2 (drop at s))) = part_at s at c.pre.1 2 2 c.turned-at2.ensures in
+    let third : pair_bytes c ≡ reverse (take 2 (drop 4 (drop at s))) = part_at s at c.pre.1 2 4 c.turned-at3.ensures in
+    let fourth : pair_bytes d ≡ reverse (take 2 (drop 6 (drop at s))) = part_at s at c.pre.1 2 6 c.turned-at4.ensures in
+    let fifth : pair_bytes e ≡ reverse (take 2 (drop 8 (drop at s))) = part_at s at c.pre.1 2 8 c.turned-at5.ensures in
+    let sixth : pair_bytes f ≡ reverse (take 2 (drop 10 (drop at s))) = part_at s at c.pre.1 2 10 c.turned-at6.ensures in
+    let seventh : pair_bytes g ≡ reverse (take 2 (drop 12 (drop at s))) = part_at s at c.pre.1 2 12 c.turned-at7.ensures in
+    let eighth : pair_bytes h ≡ reverse (take 2 (drop 14 (drop at s))) = part_at s at c.pre.1 2 14 c.turned_at-h.ensures in
     let stored =
-    two_stored (at p) 8 (four (b p) (a p) (d p) (c p)) (four (f p) (e p) (h p) (g p)) (s p) first-put.put_four.new.0 second-put.put-four2.new.0
-    (length_four (b p) (a p) (d p) (c p)) first-put.put_four.ensures second-put.put-four2.ensures in
-    rw chosen.match.keys1
-    (stored ∙ pairs_fours (s p) (at p) (start p).requires.1 (first p) (second p) (third p) (fourth p) (fifth p) (sixth p) (seventh p) (eighth p))
+    two_stored at 8 (four b a d c) (four f e h g) s c.put_four.new.0 c.put_four-in-4.new.0
+    (length_four b a d c) c.put_four.ensures c.put_four-in-4.ensures in
+    rw c.in-4.is.keys1
+    (stored ∙ pairs_fours s at c.requires.1 first second third fourth fifth sixth seventh eighth)
 
 pub returns-in-8 : goal.returns-in-8
 returns-in-8 c =
-    let second-put = end.before.before in
-    let first-put = second-put.before.before.before.before in
-    let chosen = first-put.before.before in
-    let p = chosen.before in
+    let at = c.args.at in
+    let s = c.args.buf.now in
+    let a = c.turned_at.result in
+    let b = c.turned-at2.result in
+    let c = c.turned-at3.result in
+    let d = c.turned-at4.result in
+    let e = c.turned-at5.result in
+    let f = c.turned-at6.result in
+    let g = c.turned-at7.result in
+    let h = c.turned_at-h.result in
+    let first : pair_bytes a ≡ reverse (take 2 (drop 0 (drop at s))) = part_at s at c.pre.1 2 0 (rw (add-zero at) c.turned_at.ensures) in
+    let second : pair_bytes b ≡ reverse (take 2 (drop 2 (drop at s))) = part_at s at c.pre.1 2 2 c.turned-at2.ensures in
+    let third : pair_bytes c ≡ reverse (take 2 (drop 4 (drop at s))) = part_at s at c.pre.1 2 4 c.turned-at3.ensures in
+    let fourth : pair_bytes d ≡ reverse (take 2 (drop 6 (drop at s))) = part_at s at c.pre.1 2 6 c.turned-at4.ensures in
+    let fifth : pair_bytes e ≡ reverse (take 2 (drop 8 (drop at s))) = part_at s at c.pre.1 2 8 c.turned-at5.ensures in
+    let sixth : pair_bytes f ≡ reverse (take 2 (drop 10 (drop at s))) = part_at s at c.pre.1 2 10 c.turned-at6.ensures in
+    let seventh : pair_bytes g ≡ reverse (take 2 (drop 12 (drop at s))) = part_at s at c.pre.1 2 12 c.turned-at7.ensures in
+    let eighth : pair_bytes h ≡ reverse (take 2 (drop 14 (drop at s))) = part_at s at c.pre.1 2 14 c.turned_at-h.ensures in
     let stored =
-    two_stored (at p) 8 (four (d p) (c p) (b p) (a p)) (four (h p) (g p) (f p) (e p)) (s p) first-put.put-four3.new.0 second-put.put-four4.new.0
-    (length_four (d p) (c p) (b p) (a p)) first-put.put-four3.ensures second-put.put-four4.ensures in
-    rw chosen.match.keys2
-    (stored ∙ pairs_eights (s p) (at p) (start p).requires.1 (first p) (second p) (third p) (fourth p) (fifth p) (sixth p) (seventh p) (eighth p))
+    two_stored at 8 (four d c b a) (four h g f e) s c.put_four-in-8.new.0 c.put_four-in-8-2.new.0
+    (length_four d c b a) c.put_four-in-8.ensures c.put_four-in-8-2.ensures in
+    rw c.in-8.is.keys2
+    (stored ∙ pairs_eights s at c.requires.1 first second third fourth fifth sixth seventh eighth)
 
 pub returns-in_default : goal.returns-in_default
 returns-in_default c =
-    let second-put = end.before.before in
-    let first-put = second-put.before.before.before.before in
-    let chosen = first-put.before.before in
-    let p = chosen.before in
+    let at = c.args.at in
+    let s = c.args.buf.now in
+    let a = c.turned_at.result in
+    let b = c.turned-at2.result in
+    let c = c.turned-at3.result in
+    let d = c.turned-at4.result in
+    let e = c.turned-at5.result in
+    let f = c.turned-at6.result in
+    let g = c.turned-at7.result in
+    let h = c.turned_at-h.result in
+    let first : pair_bytes a ≡ reverse (take 2 (drop 0 (drop at s))) = part_at s at c.pre.1 2 0 (rw (add-zero at) c.turned_at.ensures) in
+    let second : pair_bytes b ≡ reverse (take 2 (drop 2 (drop at s))) = part_at s at c.pre.1 2 2 c.turned-at2.ensures in
+    let third : pair_bytes c ≡ reverse (take 2 (drop 4 (drop at s))) = part_at s at c.pre.1 2 4 c.turned-at3.ensures in
+    let fourth : pair_bytes d ≡ reverse (take 2 (drop 6 (drop at s))) = part_at s at c.pre.1 2 6 c.turned-at4.ensures in
+    let fifth : pair_bytes e ≡ reverse (take 2 (drop 8 (drop at s))) = part_at s at c.pre.1 2 8 c.turned-at5.ensures in
+    let sixth : pair_bytes f ≡ reverse (take 2 (drop 10 (drop at s))) = part_at s at c.pre.1 2 10 c.turned-at6.ensures in
+    let seventh : pair_bytes g ≡ reverse (take 2 (drop 12 (drop at s))) = part_at s at c.pre.1 2 12 c.turned-at7.ensures in
+    let eighth : pair_bytes h ≡ reverse (take 2 (drop 14 (drop at s))) = part_at s at c.pre.1 2 14 c.turned_at-h.ensures in
     let stored =
-    two_stored (at p) 8 (four (h p) (g p) (f p) (e p)) (four (d p) (c p) (b p) (a p)) (s p) first-put.put-four5.new.0 second-put.put-four6.new.0
-    (length_four (h p) (g p) (f p) (e p)) first-put.put-four5.ensures second-put.put-four6.ensures in
-    rw (wide_other (start p).requires.0 chosen.match.rest.0.1 chosen.match.rest.1)
-    (stored ∙ pairs_sixteens (s p) (at p) (start p).requires.1 (first p) (second p) (third p) (fourth p) (fifth p) (sixth p) (seventh p) (eighth p))
+    two_stored at 8 (four h g f e) (four d c b a) s c.put_four-in_default.new.0 c.put_four-in_default-2.new.0
+    (length_four h g f e) c.put_four-in_default.ensures c.put_four-in_default-2.ensures in
+    rw (wide_other c.requires.0 c.in_default.in_default-own.rest.0.1 c.in_default.in_default-own.rest.1)
+    (stored ∙ pairs_sixteens s at c.requires.1 first second third fourth fifth sixth seventh eighth)

@@ -10,10 +10,5 @@ turned-requires c = search (twos, fours, eight)
 
 pub returns : goal.returns
 returns c =
-    let put = c.before.before in
-    let turn = put.before in
-    let load = turn.before.before in
-    let known = load.before.before in
-    let start = known in
-    word_turned start.args.buf.now (λ i. (known.slice_known-1.given i).fits) 2 start.args.at refl start.requires load.word_at-word.result
-    turn.turned.result put.put_word.new.0 load.word_at-word.ensures turn.turned.ensures put.put_word.ensures
+    word_turned c.args.buf.now (λ i. (c.slice_known-1.given i).fits) 2 c.args.at refl c.requires c.word_at-word.result
+    c.turned.result c.put_word.new.0 c.word_at-word.ensures c.turned.ensures c.put_word.ensures

@@ -8,11 +8,8 @@ use Rattle.word_blocks.proofs.turn_wide.Goals as goal
 
 pub returns : goal.returns
 returns c =
-    let second = c.before.before in
-    let first = second.before.before.before.before in
-    let start = first.before.before.before in
-    let a = start.args in
-    let w = start.requires.0 in
+    let a = c.args in
+    let w = c.requires.0 in
     rw (← wide_twice_again w)
-    (turned_join a.unit a.at 32 (32 / a.unit) (32 / a.unit) a.buf.now first.turn_both.new.0 second.turn_both-2.new.0 (wide_thirty_two w)
-    (omega (arith, start.requires.1)) first.turn_both.ensures second.turn_both-2.ensures)
+    (turned_join a.unit a.at 32 (32 / a.unit) (32 / a.unit) a.buf.now c.turn_both.new.0 c.turn_both-2.new.0 (wide_thirty_two w)
+    (omega (arith, c.requires.1)) c.turn_both.ensures c.turn_both-2.ensures)

@@ -9,20 +9,16 @@ use Rattle.word_turns.proofs.turn_twos.Goals as goal
 
 pub loop-left-init : goal.loop-left-init
 loop-left-init c =
-    let start = c.before in
-    let a = start.args in
-    left_all 2 a.start a.count a.buf.now (omega arith) start.requires
+    let a = c.args in
+    left_all 2 a.start a.count a.buf.now (omega arith) c.requires
 
 pub loop-left-preserved : goal.loop-left-preserved
 loop-left-preserved c =
-    let block = c.before.before in
-    let test = block.before.before in
-    let v = test.loop-left in
-    let start = test.before.before.before in
-    let a = start.args in
+    let v = c.loop-left in
+    let a = c.args in
     left_next 2 a.start a.count a.buf.now (omega arith) 4 8 refl (a.start + a.count * 2)
-    v.left v.buf v.invariant test.loop-left-test.true
-    block.turn_twos.new.0 block.turn_twos.auto.buf block.turn_twos.ensures
+    v.left v.buf v.invariant c.loop-left-test.true
+    c.turn_twos.new.0 c.turn_twos.auto.buf c.turn_twos.ensures
 
 pub turn_units-requires : goal.turn_units-requires
 turn_units-requires c =
@@ -31,9 +27,7 @@ turn_units-requires c =
 
 pub returns : goal.returns
 returns c =
-    let rest = c.before.before in
-    let v = rest.loop-left in
-    let start = rest.before.before.before.before.before in
-    let a = start.args in
+    let v = c.loop-left in
+    let a = c.args in
     left_rest 2 a.start a.count a.buf.now (omega arith) (a.start + a.count * 2)
-    v.left v.buf rest.turn_units.new.0 v.invariant rest.turn_units.ensures
+    v.left v.buf c.turn_units.new.0 v.invariant c.turn_units.ensures

@@ -9,20 +9,16 @@ use Rattle.word_turns.proofs.turn_wide.Goals as goal
 
 pub loop-left-init : goal.loop-left-init
 loop-left-init c =
-    let start = c.before in
-    let a = start.args in
-    left_all a.unit a.start a.count a.buf.now (wide_positive start.requires.0) start.requires.1
+    let a = c.args in
+    left_all a.unit a.start a.count a.buf.now (wide_positive c.requires.0) c.requires.1
 
 pub loop-left-preserved : goal.loop-left-preserved
 loop-left-preserved c =
-    let block = c.before.before in
-    let test = block.before.before in
-    let v = test.loop-left in
-    let start = test.before.before.before in
-    let a = start.args in
-    left_next a.unit a.start a.count a.buf.now (wide_positive start.requires.0) (64 / a.unit) 64 (wide_fills start.requires.0) (a.start + a.count * a.unit)
-    v.left v.buf v.invariant test.loop-left-test.true
-    block.turn_wide.new.0 block.turn_wide.auto.buf block.turn_wide.ensures
+    let v = c.loop-left in
+    let a = c.args in
+    left_next a.unit a.start a.count a.buf.now (wide_positive c.requires.0) (64 / a.unit) 64 (wide_fills c.requires.0) (a.start + a.count * a.unit)
+    v.left v.buf v.invariant c.loop-left-test.true
+    c.turn_wide.new.0 c.turn_wide.auto.buf c.turn_wide.ensures
 
 pub nonzero_div-left : goal.nonzero_div-left
 nonzero_div-left c = wide_positive c.requires.0
@@ -34,9 +30,7 @@ turn_units-requires c =
 
 pub returns : goal.returns
 returns c =
-    let rest = c.before.before in
-    let v = rest.loop-left in
-    let start = rest.before.before.before.before.before in
-    let a = start.args in
-    left_rest a.unit a.start a.count a.buf.now (wide_positive start.requires.0) (a.start + a.count * a.unit)
-    v.left v.buf rest.turn_units.new.0 v.invariant rest.turn_units.ensures
+    let v = c.loop-left in
+    let a = c.args in
+    left_rest a.unit a.start a.count a.buf.now (wide_positive c.requires.0) (a.start + a.count * a.unit)
+    v.left v.buf c.turn_units.new.0 v.invariant c.turn_units.ensures

@@ -8,20 +8,13 @@ use Rattle.words.proofs.first_word.Goals as goal
 pub returns : goal.returns
 unfolding word_at
 returns c =
-    let c7 = c.before in
-    let c6 = c7.before in
-    let c5 = c6.before in
-    let c4 = c5.before in
-    let c3 = c4.before in
-    let c2 = c3.before in
-    let c1 = c2.before in
-    let e1 = c1.byte_at-a.ensures in
-    let e2 = c2.byte_at-b.ensures in
-    let e3 = c3.byte_at-c.ensures in
-    let e4 = c4.byte_at-d.ensures in
-    let e5 = c5.byte_at-e.ensures in
-    let e6 = c6.byte_at-f.ensures in
-    let e7 = c7.byte_at-g.ensures in
+    let e1 = c.byte_at-a.ensures in
+    let e2 = c.byte_at-b.ensures in
+    let e3 = c.byte_at-c.ensures in
+    let e4 = c.byte_at-d.ensures in
+    let e5 = c.byte_at-e.ensures in
+    let e6 = c.byte_at-f.ensures in
+    let e7 = c.byte_at-g.ensures in
     let e8 = c.byte_at-h.ensures in
     eight_joined _ _ _ _ _ _ _ _ e1.1 e2.1 e3.1 e4.1 e5.1 e6.1 e7.1 e8.1
     ∙ (rw (e1.0, e2.0, e3.0, e4.0, e5.0, e6.0, e7.0, e8.0))

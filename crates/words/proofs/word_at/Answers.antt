@@ -8,6 +8,5 @@ use Rattle.words.proofs.word_at.Goals as goal
 
 pub returns : goal.returns
 returns c =
-    let start = c.before.before.before in
-    let a = start.args in
-    c.first_word.ensures ∙ part_word a.s.now a.at (a.at + 8 - a.at) start.requires (omega arith)
+    let a = c.args in
+    c.first_word.ensures ∙ part_word a.s.now a.at (a.at + 8 - a.at) c.requires (omega arith)

@@ -10,23 +10,27 @@ use Rattle.rules.proofs.Sizes.{measured_sizes}
 use borrow.Author.Rules.{rules}
 use Rattle.writer.proofs.has_wrong_facts.Goals as goal
 
-abbrev record-in : goal.After-are_same → Header
-record-in c = c.args.header
-
-sizes-are : (c : goal.After-are_same) → not c.are_same.result ≡ wrong_sizes (record-in c)
-sizes-are c =
-    let h = record-in c in
-    let same : to_z w16 (of_z w16 h.intent.bitpix) ≡ h.intent.bitpix = search rules in
-    let right =
-    rw same at c.sizes_in.ensures
-    ∙ measured_sizes (shape_of_record h) c.requires.0 in
-    ap not (c.are_same.ensures ∙ ap (same_sizes h.sizes) right)
-
 pub returns-then-not-are_same : goal.returns-then-not-are_same
-returns-then-not-are_same c = rw (sym (sizes-are c.before) ∙ c.if-not-are_same.true)
+returns-then-not-are_same c =
+    let record-in = c.args.header in
+    let sizes-are : not c.are_same.result ≡ wrong_sizes record-in =
+        let h = record-in in
+        let same : to_z w16 (of_z w16 h.intent.bitpix) ≡ h.intent.bitpix = search rules in
+        let right =
+        rw same at c.sizes_in.ensures
+        ∙ measured_sizes (shape_of_record h) c.requires.measured in
+        ap not (c.are_same.ensures ∙ ap (same_sizes h.sizes) right) in
+    rw (sym sizes-are ∙ c.if-not-are_same.true)
 
 pub returns : goal.returns
 returns c =
-    let S = c.before.before.before.before.before.before.before.before in
-    rw (sym (sizes-are c.before.before) ∙ c.if-not-are_same.false)
-    (ap (λ (a : Bool). not (beq S.args.header.aligned a)) (sym S.requires.1))
+    let record-in = c.args.header in
+    let sizes-are : not c.are_same.result ≡ wrong_sizes record-in =
+        let h = record-in in
+        let same : to_z w16 (of_z w16 h.intent.bitpix) ≡ h.intent.bitpix = search rules in
+        let right =
+        rw same at c.sizes_in.ensures
+        ∙ measured_sizes (shape_of_record h) c.requires.measured in
+        ap not (c.are_same.ensures ∙ ap (same_sizes h.sizes) right) in
+    rw (sym sizes-are ∙ c.if-not-are_same.false)
+    (ap (λ (a : Bool). not (beq c.args.header.aligned a)) (sym c.requires.header_value))

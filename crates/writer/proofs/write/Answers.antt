@@ -12,51 +12,46 @@ use Rattle.writer.proofs.Writing.{writes_failed, writes_26, writes_22, writes_al
 use borrow.Author.Rules.{rules}
 use Rattle.writer.proofs.write.Goals as goal
 
--- where the record's own rules have passed
-abbrev image : goal.In-Passed → Image
-image c = c.in-Passed.field-0
-
-abbrev fact : goal.In-Passed → Bool
-fact c = c.in-Passed.aligned
-
-passed : (c : goal.In-Passed) → record_judged c.args.header ≡ Passed (image c) (fact c)
-passed c = sym c.judge_record-judged.ensures ∙ c.in-Passed.is
-
 pub has_wrong_facts-requires : goal.has_wrong_facts-requires
 has_wrong_facts-requires c =
+    let image = c.in-Passed.field-0 in
+    let fact = c.in-Passed.aligned in
+    let passed : record_judged c.args.header ≡ Passed image fact = sym c.judge_record-judged.ensures ∙ c.in-Passed.is in
     let h = c.args.header in
-    let p = record_passed_is h (image c) (fact c) (passed c) in
-    (shape_measured (shape_of_record h) (accepted_clear (record_rows h) p.0), p.2)
+    let p = record_passed_is h image fact passed in
+    record { measured = shape_measured (shape_of_record h) (accepted_clear (record_rows h) p.0); header_value = p.2 }
 
 pub returns-then-has_wrong_facts : goal.returns-then-has_wrong_facts
 returns-then-has_wrong_facts c =
-    let t = c.before.before.before in
-    let a = t.args in
-    let w = writes_26 a.header a.buf.now (image t) (fact t) (passed t) (sym c.has_wrong_facts.ensures ∙ c.if-has_wrong_facts.true) in
+    let image = c.in-Passed.field-0 in
+    let fact = c.in-Passed.aligned in
+    let passed : record_judged c.args.header ≡ Passed image fact = sym c.judge_record-judged.ensures ∙ c.in-Passed.is in
+    let a = c.args in
+    let w = writes_26 a.header a.buf.now image fact passed (sym c.has_wrong_facts.ensures ∙ c.if-has_wrong_facts.true) in
     (c.refused.ensures ∙ w.0, w.1)
 
 pub returns-then-buf-lt348 : goal.returns-then-buf-lt348
 returns-then-buf-lt348 c =
-    let e = c.before.before in
-    let t = e.before.before in
-    let a = t.args in
-    let right = sym e.has_wrong_facts.ensures ∙ e.if-has_wrong_facts.false in
-    let w = writes_22 a.header a.buf.now (image t) (fact t) (passed t) right c.if-buf-lt348.true in
+    let image = c.in-Passed.field-0 in
+    let fact = c.in-Passed.aligned in
+    let passed : record_judged c.args.header ≡ Passed image fact = sym c.judge_record-judged.ensures ∙ c.in-Passed.is in
+    let a = c.args in
+    let right = sym c.has_wrong_facts.ensures ∙ c.if-has_wrong_facts.false in
+    let w = writes_22 a.header a.buf.now image fact passed right c.if-buf-lt348.true in
     (c.refused-then-buf-lt348.ensures ∙ w.0, w.1)
 
 pub returns-in-Failed : goal.returns-in-Failed
 returns-in-Failed c =
-    let j = c.before in
-    let a = j.args in
+    let a = c.args in
     let t = c.judged-1.given in
-    writes_failed a.header a.buf.now t.0.0 (sym j.judge_record-judged.ensures ∙ t.1)
+    writes_failed a.header a.buf.now t.0.0 (sym c.judge_record-judged.ensures ∙ t.1)
 
 pub returns-else-buf-lt348 : goal.returns-else-buf-lt348
 returns-else-buf-lt348 c =
-    let w = c.before.before in
-    let e = w.before.before.before in
-    let t = e.before.before in
-    let a = t.args in
-    let right = sym e.has_wrong_facts.ensures ∙ e.if-has_wrong_facts.false in
-    let all = writes_all a.header a.buf.now (image t) (fact t) (passed t) right (omega arith) in
-    (all.0, w.write_header.ensures ∙ all.1)
+    let image = c.in-Passed.field-0 in
+    let fact = c.in-Passed.aligned in
+    let passed : record_judged c.args.header ≡ Passed image fact = sym c.judge_record-judged.ensures ∙ c.in-Passed.is in
+    let a = c.args in
+    let right = sym c.has_wrong_facts.ensures ∙ c.if-has_wrong_facts.false in
+    let all = writes_all a.header a.buf.now image fact passed right (omega arith) in
+    (all.0, c.write_header.ensures ∙ all.1)

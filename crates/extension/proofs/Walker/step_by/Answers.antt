@@ -52,7 +52,7 @@ rule-is k = rw (size_same k.before.before) at k.size_rule-sized.ensures
 
 -- past its test it holds
 held : (c : goal.Else-not-sized) → size_rule (size c.before.before.before.before) (n c.before.before.before.before) ≡ true
-held c = let k = c.before.before in sym (rule-is k) ∙ not-false k.size-rule.result c.if-not-sized.false
+held c = let k = c.before.before in sym (rule-is k) ∙ not-false k.size_rule.result c.if-not-sized.false
 
 size_is : (c : goal.Else-not-sized) → Ruled (size c.before.before.before.before) (n c.before.before.before.before)
 size_is c = let s = c.before.before.before.before in ruled (size s) (n s) (held c)
