@@ -59,16 +59,6 @@ bytes_at_part at w s h =
     let less : i < w = rw (length-tabulate (λ k. get_or s (at + k) 0) w) at below in
     tabulate_get (λ k. get_or s (at + k) 0) w i 0 less ∙ sym (get_or-take w (drop at s) i 0 less ∙ get_or-drop at s i 0))
 
--- a list filled by a copy of such a part: `bytes::copy` leaves the part, and what it does not reach
-pub part_copied : (at m : ℕ) (s out out' : List ℕ) → m ≡ length out → at + m ≤ length s
-    → out' ≡ take (length (take m (drop at s))) (take m (drop at s)) ++ drop (length (take m (drop at s))) out → out' ≡ bytes_at at (length out) s
-part_copied at m s out out' all h e =
-    let room : m ≤ length (drop at s) = simp length-drop (omega arith) in
-    let whole : length (take m (drop at s)) ≡ length out = length-take-le m (drop at s) room ∙ all in
-    e
-    ∙ ap (λ (l : List ℕ). l ++ drop (length (take m (drop at s))) out) (take-length (take m (drop at s)))
-    ∙ ap (λ (n : ℕ). take m (drop at s) ++ drop n out) whole
-    ∙ ap (λ (l : List ℕ). take m (drop at s) ++ l) (drop-length out)
-    ∙ append-nil (take m (drop at s))
-    ∙ sym (bytes_at_part at m s h)
-    ∙ ap (λ (n : ℕ). bytes_at at n s) all
+-- a list filled by a copy of such a part
+pub part_copied : (at m : ℕ) (s out out' : List ℕ) → m ≡ length out → at + m ≤ length s → out' ≡ take m (drop at s) → out' ≡ bytes_at at (length out) s
+part_copied at m s out out' all h e = e ∙ sym (bytes_at_part at m s h) ∙ ap (λ (n : ℕ). bytes_at at n s) all

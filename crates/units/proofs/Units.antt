@@ -7,6 +7,7 @@ use native.Mathlib.Numerals.{sub-one}
 use native.Mathlib.Omega.{arith}
 use lib.ListN.{length, take, drop, length-append, length-take, length-drop, length-reverse, take-append-drop}
 use lib.Seq.{length-take-le, take-take, take_at, drop_at, drop-drop, slice_empty}
+use borrow.Rule.Slice.PartMut.{put_mid}
 use Rattle.number.proofs.Lists.{drop-take_add}
 use Rattle.units.specs.Units.{turned, turned_at}
 
@@ -127,10 +128,10 @@ turned_next w at m n l l' h k e =
 
 -- ---- The loop that reverses each unit
 
--- a part reversed in place is one unit turned round
-pub turned-reverse : (w at : ℕ) (l : List ℕ) → take at l ++ (reverse (take w (drop at l)) ++ drop (at + w) l) ≡ turned_at w at 1 l
+-- a part of k bytes reversed in place is one unit turned round
+pub turned-reverse : (w at k : ℕ) (l part : List ℕ) → k ≡ w → part ≡ reverse (take k (drop at l)) → put_mid at k l part ≡ turned_at w at 1 l
 unfolding turned_at turned
-turned-reverse w at l = rw (drop-take_add at w l, drop-drop w at l)
+turned-reverse w at k l part e p = rw (p, e, drop-drop w at l)
 
 -- the bytes of n units are those of one, and of the others
 pub bytes_left : (n w : ℕ) → 0 < n → n * w ≡ w + (n - 1) * w

@@ -29,7 +29,7 @@ pub returns-then-image_cut : goal.returns-then-image_cut
 returns-then-image_cut c =
     let a = c.args in
     c.unlocated.ensures
-    ∙ shown_16 a.file.now a.outline c.requires a.len a.t4 (sym c.image_cut.ensures ∙ c.if-image_cut.true)
+    ∙ shown_16 a.file.now a.outline c.requires a.len a.index (sym c.image_cut.ensures ∙ c.if-image_cut.true)
 
 pub dims-dim-requires : goal.dims-dim-requires
 dims-dim-requires c =
@@ -63,7 +63,7 @@ returns-then-before c =
     let dims-are : c.dims-dim.result ≡ read.dim = c.dims-dim.ensures in
     let bitpix-is : to_z w16 (of_z w16 c.read_i16-bitpix.result) ≡ read.bitpix = to_z-of_z w16 c.read_i16-bitpix.result (record { sfits = c.read_i16-bitpix.type_inv }) ∙ c.read_i16-bitpix.ensures in
     let count-is : c.axis_count.result ≡ axis_count read.dim = c.axis_count.ensures.0 ∙ ap axis_count dims-are in
-    let index_in = c.args.t4 in
+    let index_in = c.args.index in
     let by = volume c.args.file.now c.args.outline c.requires in
     let sizes-are : c.sizes_in-sizes.result ≡ by.sizes = rw (dims-are, bitpix-is) at c.sizes_in-sizes.ensures in
     let stated = seven_axes c.dims-dim.result c.axis_count.result in
@@ -83,7 +83,7 @@ overflow_add-result c =
     let dims-are : c.dims-dim.result ≡ read.dim = c.dims-dim.ensures in
     let bitpix-is : to_z w16 (of_z w16 c.read_i16-bitpix.result) ≡ read.bitpix = to_z-of_z w16 c.read_i16-bitpix.result (record { sfits = c.read_i16-bitpix.type_inv }) ∙ c.read_i16-bitpix.ensures in
     let count-is : c.axis_count.result ≡ axis_count read.dim = c.axis_count.ensures.0 ∙ ap axis_count dims-are in
-    let index_in = c.args.t4 in
+    let index_in = c.args.index in
     let by = volume c.args.file.now c.args.outline c.requires in
     let sizes-are : c.sizes_in-sizes.result ≡ by.sizes = rw (dims-are, bitpix-is) at c.sizes_in-sizes.ensures in
     let stated = seven_axes c.dims-dim.result c.axis_count.result in
@@ -103,7 +103,7 @@ returns c =
     let dims-are : c.dims-dim.result ≡ read.dim = c.dims-dim.ensures in
     let bitpix-is : to_z w16 (of_z w16 c.read_i16-bitpix.result) ≡ read.bitpix = to_z-of_z w16 c.read_i16-bitpix.result (record { sfits = c.read_i16-bitpix.type_inv }) ∙ c.read_i16-bitpix.ensures in
     let count-is : c.axis_count.result ≡ axis_count read.dim = c.axis_count.ensures.0 ∙ ap axis_count dims-are in
-    let index_in = c.args.t4 in
+    let index_in = c.args.index in
     let by = volume c.args.file.now c.args.outline c.requires in
     let sizes-are : c.sizes_in-sizes.result ≡ by.sizes = rw (dims-are, bitpix-is) at c.sizes_in-sizes.ensures in
     let stated = seven_axes c.dims-dim.result c.axis_count.result in

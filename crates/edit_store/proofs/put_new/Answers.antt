@@ -32,7 +32,7 @@ pub returns-in-Append : goal.returns-in-Append
 returns-in-Append c =
     let a = c.args in
     let q = to_z-of_z w32 a.code c.ranges.code in
-    let e : c.put_extension.new.0 ≡ put a.buf.now a.at (stored a.order a.code a.payload.now) =
+    let e : c.put_extension.new.buf ≡ put a.buf.now a.at (stored a.order a.code a.payload.now) =
     rw q at c.put_extension.ensures in
     e ∙ rw (c.in-Append.is, append-nil)
 
@@ -40,7 +40,7 @@ pub returns-in-Replace : goal.returns-in-Replace
 returns-in-Replace c =
     let a = c.args in
     let q = to_z-of_z w32 a.code c.ranges.code in
-    let e : c.put_extension-in-Replace.new.0 ≡ put a.buf.now a.at (stored a.order a.code a.payload.now) =
+    let e : c.put_extension-in-Replace.new.buf ≡ put a.buf.now a.at (stored a.order a.code a.payload.now) =
     rw q at c.put_extension-in-Replace.ensures in
     e ∙ rw (c.in-Replace.is, append-nil)
 

@@ -34,3 +34,10 @@ returns c =
     let copied = c.copy_in.ensures in
     let same = gathered_copy a.b a.axis way a.src.now _ _ a.from _ c.requires.inside n copied in
     rw same at c.one_by_one.ensures
+
+pub slice_bounds-copy_in-end-2 : goal.slice_bounds-copy_in-end-2
+slice_bounds-copy_in-end-2 c =
+    let a = c.args in
+    let way = downwards c.requires.up_value.0 c.requires.up_value.1 in
+    let whole = inside_whole a.b a.axis way (length a.src.now) a.from c.requires.inside in
+    omega arith

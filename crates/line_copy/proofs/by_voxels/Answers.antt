@@ -13,18 +13,6 @@ use Rattle.line_plan.specs.Line.{with_number, count_along}
 use Rattle.line_copy.proofs.Engines.{part_holds, line_room, line_series}
 use Rattle.line_copy.proofs.by_voxels.Goals as goal
 
--- where the function began
-abbrev from : tie.In-loop invariant-loop decreases-loop → tie.Start invariant-loop decreases-loop
-from c = c.before.before.before.before.before.before.before.before.before
-
--- the turn of the loop, and the voxel that is located in it
-abbrev turn : tie.After-locate-at invariant-loop decreases-loop → tie.In-loop invariant-loop decreases-loop
-turn c = c.before.before.before.before
-
-located-is : (c : tie.After-locate-at invariant-loop decreases-loop) → let a = (from (turn c)).args in c.locate_at.result ≡ stepped_by a.v a.image (with_number a.axis a.index (turn c).before.loop.k)
-unfolding with_number
-located-is c = c.locate_at.ensures
-
 pub loop-k-init : goal.loop-k-init
 loop-k-init c =
     let a = c.args in
@@ -34,13 +22,13 @@ loop-k-init c =
     (count, progress_start a.out.now 0 _ c.axis_length-count.result (omega (arith, room, ap length line)))
 
 pub overflow_sub-at : goal.overflow_sub-at
-overflow_sub-at c = (from c).requires.first
+overflow_sub-at c = c.requires.first
 
 pub offset_bounds-at-axis : goal.offset_bounds-at-axis
-offset_bounds-at-axis c = record { fits = omega (arith, (from c).requires.last) }
+offset_bounds-at-axis c = record { fits = omega (arith, c.requires.last) }
 
 pub bounds-at-axis : goal.bounds-at-axis
-bounds-at-axis c = omega (arith, (from c).requires.first, (from c).requires.last)
+bounds-at-axis c = omega (arith, c.requires.first, c.requires.last)
 
 pub locate_at-located-requires : goal.locate_at-located-requires
 locate_at-located-requires c = (
@@ -50,23 +38,23 @@ locate_at-located-requires c = (
 )
 
 pub copy_located-to-requires : goal.copy_located-to-requires
+unfolding with_number
 copy_located-to-requires c =
-    let t = turn c in
-    let S = from t in
-    let a = S.args in
-    let k = t.before.loop.k in
-    let below : k < count_along a.v.dim a.axis = omega (arith, t.before.loop.inv.0) in record { holds = rw (located-is c) (part_holds a.v a.src.now a.image a.axis a.index (length a.out.now) S.pre k below); src_in_bounds = rw (located-is c) (progress_room _ 0 _ _ _ _ k t.before.loop.inv.1 (omega arith)) }
+    let located-is : let a = c.args in c.locate_at-located.result ≡ stepped_by a.v a.image (with_number a.axis a.index c.loop-k.k) = c.locate_at-located.ensures in
+    let a = c.args in
+    let k = c.loop-k.k in
+    let below : k < count_along a.v.dim a.axis = omega (arith, c.loop-k.invariant.0) in record { holds = rw located-is (part_holds a.v a.src.now a.image a.axis a.index (length a.out.now) c.requires k below); src_in_bounds = rw located-is (progress_room _ 0 _ _ _ _ k c.loop-k.invariant.1 (omega arith)) }
 
 pub loop-k-preserved : goal.loop-k-preserved
+unfolding with_number
 loop-k-preserved c =
-    let t = turn c in
-    let S = from t in
-    let a = S.args in
+    let located-is : let a = c.args in c.locate_at-located.result ≡ stepped_by a.v a.image (with_number a.axis a.index c.loop-k.k) = c.locate_at-located.ensures in
+    let a = c.args in
     let call = c.copy_located-to.ensures in
-    let part = ap (λ (l : Located). part_of l a.src.now) (located-is c) in (
-      t.before.loop.inv.0,
-      progress_next _ 0 _ _ _ _ t.before.loop.k t.before.loop.inv.1 (omega arith) _ _ _ call.0 part
-          (call.1 ∙ ap (λ (l : List ℕ). t.before.loop.to + length l) part),
+    let part = ap (λ (l : Located). part_of l a.src.now) located-is in (
+      c.loop-k.invariant.0,
+      progress_next _ 0 _ _ _ _ c.loop-k.k c.loop-k.invariant.1 (omega arith) _ _ _ call.0 part
+          (call.1 ∙ ap (λ (l : List ℕ). c.loop-k.to + length l) part),
     )
 
 pub returns : goal.returns

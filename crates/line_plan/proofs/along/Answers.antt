@@ -15,7 +15,7 @@ use Rattle.line_plan.proofs.along.Goals as goal
 pub returns-then-axis-n : goal.returns-then-axis-n
 returns-then-axis-n c =
     let a = c.args in
-    c.unlined.ensures ∙ own_axis a.v a.axis a.t3 a.out (rw c.axis_count-n.ensures.0 at c.if-axis-n.true)
+    c.unlined.ensures ∙ own_axis a.v a.axis a.index a.out (rw c.axis_count-n.ensures.0 at c.if-axis-n.true)
 
 pub bytes_before-before-requires : goal.bytes_before-before-requires
 bytes_before-before-requires c =
@@ -27,25 +27,25 @@ bytes_before-before-requires c =
 
 pub returns-then-before : goal.returns-then-before
 returns-then-before c =
-    let answer : let a = c.args in Reaches (seven_axes a.v.dim (axis_count a.v.dim)) a.v.sizes.steps a.t3 c.bytes_before-before.result = rw c.axis_count-n.ensures.0 at c.bytes_before-before.ensures in
+    let answer : let a = c.args in Reaches (seven_axes a.v.dim (axis_count a.v.dim)) a.v.sizes.steps a.index c.bytes_before-before.result = rw c.axis_count-n.ensures.0 at c.bytes_before-before.ensures in
     let a = c.args in
-    c.unlined-then-before.ensures ∙ own_index a.v a.axis a.t3 a.out (reached_outside answer c.if-before.true)
+    c.unlined-then-before.ensures ∙ own_index a.v a.axis a.index a.out (reached_outside answer c.if-before.true)
 
 pub course_of-requires : goal.course_of-requires
 course_of-requires c =
-    let answer : let a = c.args in Reaches (seven_axes a.v.dim (axis_count a.v.dim)) a.v.sizes.steps a.t3 c.bytes_before-before.result = rw c.axis_count-n.ensures.0 at c.bytes_before-before.ensures in
-    let passed : let a = c.args in line_outside a.v.dim a.axis a.t3 ≡ false =
+    let answer : let a = c.args in Reaches (seven_axes a.v.dim (axis_count a.v.dim)) a.v.sizes.steps a.index c.bytes_before-before.result = rw c.axis_count-n.ensures.0 at c.bytes_before-before.ensures in
+    let passed : let a = c.args in line_outside a.v.dim a.axis a.index ≡ false =
         let a = c.args in
-        own_passed a.v a.axis a.t3 a.out (rw c.axis_count-n.ensures.0 at c.if-axis-n.false)
+        own_passed a.v a.axis a.index a.out (rw c.axis_count-n.ensures.0 at c.if-axis-n.false)
         (reached_inside answer c.if-before.false) in
     (c.requires.0, c.requires.1, passed, answer)
 
 pub returns : goal.returns
 returns c =
-    let answer : let a = c.args in Reaches (seven_axes a.v.dim (axis_count a.v.dim)) a.v.sizes.steps a.t3 c.bytes_before-before.result = rw c.axis_count-n.ensures.0 at c.bytes_before-before.ensures in
-    let passed : let a = c.args in line_outside a.v.dim a.axis a.t3 ≡ false =
+    let answer : let a = c.args in Reaches (seven_axes a.v.dim (axis_count a.v.dim)) a.v.sizes.steps a.index c.bytes_before-before.result = rw c.axis_count-n.ensures.0 at c.bytes_before-before.ensures in
+    let passed : let a = c.args in line_outside a.v.dim a.axis a.index ≡ false =
         let a = c.args in
-        own_passed a.v a.axis a.t3 a.out (rw c.axis_count-n.ensures.0 at c.if-axis-n.false)
+        own_passed a.v a.axis a.index a.out (rw c.axis_count-n.ensures.0 at c.if-axis-n.false)
         (reached_inside answer c.if-before.false) in
     let a = c.args in
-    c.course_of.ensures ∙ own_then a.v a.axis a.t3 a.out passed
+    c.course_of.ensures ∙ own_then a.v a.axis a.index a.out passed

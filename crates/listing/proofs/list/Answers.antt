@@ -13,29 +13,33 @@ use Rattle.listing.proofs.Passed.{pass_none, pass_room, pass_end, pass_halt}
 use Rattle.listing.proofs.Filled.{Filled, fill_turn}
 use Rattle.listing.proofs.list.Goals as goal
 
--- what the turn's step found, and the room that is left for it
-step_is : (c : tie.After-known-told invariant-loop decreases-loop) → let l = c.before.before.before.before in step_of l.before.before.before.before.args.file.now l.loop.walker ≡ Extension c.before.step2.given.0.0 c.before.step2.given.0.1.0
-step_is c = sym c.before.before.before.step.ensures ∙ c.before.step2.given.1
-
-room-is : (c : tie.After-known-told invariant-loop decreases-loop) → let w = c.before.before.before.before.loop.walker in (w.count < extension_limit) × (c.before.step2.given.0.1.0.count ≡ w.count + 1)
-room-is c = pass_room _ _ _ _ c.before.before.before.before.loop.invariant.passed _ _ (step_is c)
-
 pub loop-x-init : goal.loop-x-init
 loop-x-init c =
     let e = c.new-walker.ensures in
     record { so_far = []; passed = pass_none _ _ e.2 e.3; kept = c.no_spans-spans.ensures }
 
 pub offset_bounds-spans-count : goal.offset_bounds-spans-count
-offset_bounds-spans-count c = omega (arith, room-is c)
+offset_bounds-spans-count c =
+    let step_is : step_of c.args.file.now c.loop-x.walker ≡ Extension c.in-Extension.x c.in-Extension.next = sym c.step-step.ensures ∙ c.in-Extension.is in
+    let room-is : let w = c.loop-x.walker in (w.count < extension_limit) × (c.in-Extension.next.count ≡ w.count + 1) = pass_room _ _ _ _ c.loop-x.invariant.passed _ _ step_is in
+    omega (arith, room-is)
 
 pub bounds-spans-count : goal.bounds-spans-count
-bounds-spans-count c = omega (arith, room-is c)
+bounds-spans-count c =
+    let step_is : step_of c.args.file.now c.loop-x.walker ≡ Extension c.in-Extension.x c.in-Extension.next = sym c.step-step.ensures ∙ c.in-Extension.is in
+    let room-is : let w = c.loop-x.walker in (w.count < extension_limit) × (c.in-Extension.next.count ≡ w.count + 1) = pass_room _ _ _ _ c.loop-x.invariant.passed _ _ step_is in
+    omega (arith, room-is)
 
 pub loop-x-smaller : goal.loop-x-smaller
-loop-x-smaller c = omega (arith, room-is c)
+loop-x-smaller c =
+    let step_is : step_of c.args.file.now c.loop-x.walker ≡ Extension c.in-Extension.x c.in-Extension.next = sym c.step-step.ensures ∙ c.in-Extension.is in
+    let room-is : let w = c.loop-x.walker in (w.count < extension_limit) × (c.in-Extension.next.count ≡ w.count + 1) = pass_room _ _ _ _ c.loop-x.invariant.passed _ _ step_is in
+    omega (arith, room-is)
 
 pub loop-x-preserved : goal.loop-x-preserved
-loop-x-preserved c = fill_turn _ _ _ _ c.loop-x.invariant _ _ (step_is c)
+loop-x-preserved c =
+    let step_is : step_of c.args.file.now c.loop-x.walker ≡ Extension c.in-Extension.x c.in-Extension.next = sym c.step-step.ensures ∙ c.in-Extension.is in
+    fill_turn _ _ _ _ c.loop-x.invariant _ _ step_is
 
 pub returns-in-End : goal.returns-in-End
 unfolding listing_of

@@ -17,7 +17,7 @@ returns-then-count-number c =
 pub returns : goal.returns
 returns c =
     let a = c.args in
-    let x = get_or a.t2 a.number no_span in
+    let x = get_or a.spans a.number no_span in
     let size : to_z w32 (of_z w32 x.size) ≡ x.size = search rules in
     let code : to_z w32 (of_z w32 x.code) ≡ x.code = search rules in
     rw (lt-ltb a.number a.count (omega arith))

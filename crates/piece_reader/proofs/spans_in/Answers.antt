@@ -21,18 +21,18 @@ loop-i-preserved c =
     let a = c.args in
     let inv = c.loop-i.invariant in
     let few : c.loop-i.i < extension_limit = omega arith in
-    let inside : c.loop-i.i < length a.t1 = search rules in
-    let m = get_or a.t1 c.loop-i.i no_mark in
+    let inside : c.loop-i.i < length a.marks = search rules in
+    let m = get_or a.marks c.loop-i.i no_mark in
     let size : to_z w32 (of_z w32 m.size) ≡ m.size = search rules in
     let code : to_z w32 (of_z w32 m.code) ≡ m.code = search rules in (
       omega arith,
       (λ i. set c.loop-i.spans c.loop-i.i (span c.loop-i.start (size i) (code i)))
-          ∙ span_turn a.t1 c.loop-i.i inside few c.loop-i.spans c.loop-i.start inv.1 inv.2,
-      ap (λ n. c.loop-i.start + n) (c.natural32-start.ensures.0 ∙ ap natural_of size) ∙ place_turn a.t1 c.loop-i.i inside c.loop-i.start inv.2,
+          ∙ span_turn a.marks c.loop-i.i inside few c.loop-i.spans c.loop-i.start inv.1 inv.2,
+      ap (λ n. c.loop-i.start + n) (c.natural32-start.ensures.0 ∙ ap natural_of size) ∙ place_turn a.marks c.loop-i.i inside c.loop-i.start inv.2,
       omega (arith, c.natural32-start.ensures.1),
     )
 
 pub returns : goal.returns
 returns c =
     let e : c.loop-i.i ≡ c.args.count = omega arith in
-    c.loop-i.invariant.1 ∙ ap (λ n. spans_of (spans_by first_place (take n c.args.t1))) e
+    c.loop-i.invariant.1 ∙ ap (λ n. spans_of (spans_by first_place (take n c.args.marks))) e

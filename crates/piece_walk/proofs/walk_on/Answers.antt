@@ -18,39 +18,52 @@ use Rattle.piece_walk.proofs.walk_on.Goals as goal
 abbrev walk : ℕ → ℕ → List ℕ → List Mark → Walk
 walk at count coming marks = record { at = at; count = count; coming = coming; marks = marks }
 
--- the walk at a turn, what its step found, and the room that there was for it
-abbrev so_far : tie.After-step-in invariant-loop decreases-loop → Walk
-so_far s =
-    let l = s.before.loop in
-    let a = s.before.before.before.before.before.args in
-    walk l.at l.count (window l.at a.end a.taken a.walk.coming a.piece.now) l.marks
-
-step_is : (c : tie.After-known-told invariant-loop decreases-loop) → let s = c.before.before.before in let a = s.before.before.before.before.before.args in step_by (walker_of a.order a.end (so_far s)) (so_far s).coming (a.taken + length a.piece.now) ≡ Extension c.before.step.given.0.0 c.before.step.given.0.1.0
-step_is c = sym c.before.before.before.step_in.ensures ∙ c.before.step.given.1
-
-room-is : (c : tie.After-known-told invariant-loop decreases-loop) → ((so_far c.before.before.before).count < extension_limit) × (c.before.step.given.0.1.0.count ≡ (so_far c.before.before.before).count + 1)
-room-is c = step_room _ _ _ _ _ (step_is c)
-
 pub loop-x-init : goal.loop-x-init
 loop-x-init c = refl
 
 pub offset_bounds-marks-count : goal.offset_bounds-marks-count
-offset_bounds-marks-count c = omega (arith, room-is c)
+offset_bounds-marks-count c =
+    let so_far =
+        let l = c.loop-x in
+        let a = c.args in
+        walk l.at l.count (window l.at a.end a.taken a.walk.coming a.piece.now) l.marks in
+    let step_is : let a = c.args in step_by (walker_of a.order a.end so_far) so_far.coming (a.taken + length a.piece.now) ≡ Extension c.in-Extension.x c.in-Extension.next = sym c.step_in-step.ensures ∙ c.in-Extension.is in
+    let room-is : (so_far.count < extension_limit) × (c.in-Extension.next.count ≡ so_far.count + 1) = step_room _ _ _ _ _ step_is in
+    omega (arith, room-is)
 
 pub bounds-marks-count : goal.bounds-marks-count
-bounds-marks-count c = omega (arith, room-is c)
+bounds-marks-count c =
+    let so_far =
+        let l = c.loop-x in
+        let a = c.args in
+        walk l.at l.count (window l.at a.end a.taken a.walk.coming a.piece.now) l.marks in
+    let step_is : let a = c.args in step_by (walker_of a.order a.end so_far) so_far.coming (a.taken + length a.piece.now) ≡ Extension c.in-Extension.x c.in-Extension.next = sym c.step_in-step.ensures ∙ c.in-Extension.is in
+    let room-is : (so_far.count < extension_limit) × (c.in-Extension.next.count ≡ so_far.count + 1) = step_room _ _ _ _ _ step_is in
+    omega (arith, room-is)
 
 pub loop-x-smaller : goal.loop-x-smaller
-loop-x-smaller c = omega (arith, room-is c)
+loop-x-smaller c =
+    let so_far =
+        let l = c.loop-x in
+        let a = c.args in
+        walk l.at l.count (window l.at a.end a.taken a.walk.coming a.piece.now) l.marks in
+    let step_is : let a = c.args in step_by (walker_of a.order a.end so_far) so_far.coming (a.taken + length a.piece.now) ≡ Extension c.in-Extension.x c.in-Extension.next = sym c.step_in-step.ensures ∙ c.in-Extension.is in
+    let room-is : (so_far.count < extension_limit) × (c.in-Extension.next.count ≡ so_far.count + 1) = step_room _ _ _ _ _ step_is in
+    omega (arith, room-is)
 
 pub loop-x-preserved : goal.loop-x-preserved
 loop-x-preserved c =
+    let so_far =
+        let l = c.loop-x in
+        let a = c.args in
+        walk l.at l.count (window l.at a.end a.taken a.walk.coming a.piece.now) l.marks in
+    let step_is : let a = c.args in step_by (walker_of a.order a.end so_far) so_far.coming (a.taken + length a.piece.now) ≡ Extension c.in-Extension.x c.in-Extension.next = sym c.step_in-step.ensures ∙ c.in-Extension.is in
     let l = c.loop-x in
     let a = c.args in
     let next = c.in-Extension.next in
     let coming = window next.at a.end a.taken a.walk.coming a.piece.now in
     l.invariant
-    ∙ passing_on _ _ _ _ _ (so_far c) _ next (step_is c)
+    ∙ passing_on _ _ _ _ _ so_far _ next step_is
     ∙ ap
     (λ m.
     passing a.order a.end a.walk.coming a.taken a.piece.now (extension_limit - next.count)
@@ -60,17 +73,25 @@ loop-x-preserved c =
 pub returns-in-End : goal.returns-in-End
 unfolding walked_on
 returns-in-End c =
+    let so_far =
+        let l = c.loop-x in
+        let a = c.args in
+        walk l.at l.count (window l.at a.end a.taken a.walk.coming a.piece.now) l.marks in
     let l = c.loop-x in
     sym
     (l.invariant
-    ∙ passing_end _ _ _ _ _ (so_far c) _ (sym c.step_in-step.ensures ∙ c.in-End.is)
+    ∙ passing_end _ _ _ _ _ so_far _ (sym c.step_in-step.ensures ∙ c.in-End.is)
     ∙ ap (λ m. walk l.at l.count m l.marks) (sym c.window_at.ensures))
 
 pub returns-in-Halt : goal.returns-in-Halt
 unfolding walked_on
 returns-in-Halt c =
+    let so_far =
+        let l = c.loop-x in
+        let a = c.args in
+        walk l.at l.count (window l.at a.end a.taken a.walk.coming a.piece.now) l.marks in
     let l = c.loop-x in
     sym
     (l.invariant
-    ∙ passing_halt _ _ _ _ _ (so_far c) _ _ (sym c.step_in-step.ensures ∙ c.in-Halt.is)
+    ∙ passing_halt _ _ _ _ _ so_far _ _ (sym c.step_in-step.ensures ∙ c.in-Halt.is)
     ∙ ap (λ m. walk l.at l.count m l.marks) (sym c.window_at-in-Halt.ensures))

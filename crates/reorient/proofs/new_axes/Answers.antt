@@ -54,4 +54,4 @@ pub returns : goal.returns
 unfolding permuted
 returns c =
     let a = c.args in
-    rw (last_four a.t1 no_axis (omega arith))
+    rw (last_four a.old no_axis (omega arith))

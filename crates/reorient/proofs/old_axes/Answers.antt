@@ -17,20 +17,20 @@ pub overflow_mul-step : goal.overflow_mul-step
 overflow_mul-step c =
     let v = c.loop-k in
     let a = c.args in
-    let next = step_next v.step a.t1 v.k (a.b * voxels a.t1) (omega arith) v.invariant.2 v.invariant.3 in
+    let next = step_next v.step a.lengths v.k (a.b * voxels a.lengths) (omega arith) v.invariant.2 v.invariant.3 in
     omega (arith, next.small)
 
 pub loop-k-preserved : goal.loop-k-preserved
 loop-k-preserved c =
     let v = c.loop-k in
     let a = c.args in
-    let next = step_next v.step a.t1 v.k (a.b * voxels a.t1) (omega arith) v.invariant.2 v.invariant.3 in
-    let made = c.axis_of.ensures ∙ ap (axis_of (get_or a.t1 v.k 0) v.step) c.reversed_at.ensures in (
+    let next = step_next v.step a.lengths v.k (a.b * voxels a.lengths) (omega arith) v.invariant.2 v.invariant.3 in
+    let made = c.axis_of.ensures ∙ ap (axis_of (get_or a.lengths v.k 0) v.step) c.reversed_at.ensures in (
       omega arith,
       simp length-set v.invariant.1,
       next.left,
       next.some,
-      axes_next v.axes _ _ v.step (reversals a.t) a.t1 v.k (omega arith) (omega arith) made v.invariant.4,
+      axes_next v.axes _ _ v.step (reversals a.t) a.lengths v.k (omega arith) (omega arith) made v.invariant.4,
     )
 
 pub returns : goal.returns
@@ -38,4 +38,4 @@ returns c =
     let v = c.loop-k in
     let a = c.args in
     let end : v.k ≡ 7 = omega arith in
-    axes_done v.axes _ v.step (drop v.k (reversals a.t)) a.t1 v.k end v.invariant.1 (omega arith) v.invariant.4
+    axes_done v.axes _ v.step (drop v.k (reversals a.t)) a.lengths v.k end v.invariant.1 (omega arith) v.invariant.4

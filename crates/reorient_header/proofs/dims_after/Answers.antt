@@ -54,13 +54,13 @@ unfolding entries_after
 returns c =
     let a = c.args in
     rw (
-      same (get_or a.t1 0 (pos 0)) c.result-1.given,
-      same (get_or a.t1 a.t.axis1 (pos 0)) c.result-2-1.given,
-      same (get_or a.t1 a.t.axis2 (pos 0)) c.result-3-1.given,
-      same (get_or a.t1 a.t.axis3 (pos 0)) c.result-4-1.given,
-      same (get_or a.t1 4 (pos 0)) c.result-5-1.given,
-      same (get_or a.t1 5 (pos 0)) c.result-6-1.given,
-      same (get_or a.t1 6 (pos 0)) c.result-7-1.given,
-      same (get_or a.t1 7 (pos 0)) c.result-8-1.given,
+      same (get_or a.dim 0 (pos 0)) c.result-1.given,
+      same (get_or a.dim a.t.axis1 (pos 0)) c.result-2-1.given,
+      same (get_or a.dim a.t.axis2 (pos 0)) c.result-3-1.given,
+      same (get_or a.dim a.t.axis3 (pos 0)) c.result-4-1.given,
+      same (get_or a.dim 4 (pos 0)) c.result-5-1.given,
+      same (get_or a.dim 5 (pos 0)) c.result-6-1.given,
+      same (get_or a.dim 6 (pos 0)) c.result-7-1.given,
+      same (get_or a.dim 7 (pos 0)) c.result-8-1.given,
     )
-    (ap (λ l. get_or a.t1 0 (pos 0) ∷ l) (entries a.t1 (pos 0) a.t c.requires (omega arith)))
+    (ap (λ l. get_or a.dim 0 (pos 0) ∷ l) (entries a.dim (pos 0) a.t c.requires (omega arith)))

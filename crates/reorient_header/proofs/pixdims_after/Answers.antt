@@ -44,4 +44,4 @@ pub returns : goal.returns
 unfolding entries_after
 returns c =
     let a = c.args in
-    ap (λ l. get_or a.t1 0 0 ∷ l) (entries a.t1 0 a.t c.requires (omega arith))
+    ap (λ l. get_or a.pixdim 0 0 ∷ l) (entries a.pixdim 0 a.t c.requires (omega arith))

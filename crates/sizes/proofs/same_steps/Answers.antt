@@ -15,14 +15,14 @@ loop-k-init c = (omega arith, refl)
 pub returns-then-a-k : goal.returns-then-a-k
 returns-then-a-k c =
     let a = c.args in
-    sym (c.loop-k.invariant.1 ∙ same_next a.t1 a.t2 c.loop-k.k (omega arith) (omega arith) ∙ rw (ne_eqb _ _ c.if-a-k.true))
+    sym (c.loop-k.invariant.1 ∙ same_next a.a a.b c.loop-k.k (omega arith) (omega arith) ∙ rw (ne_eqb _ _ c.if-a-k.true))
 
 pub loop-k-preserved : goal.loop-k-preserved
 loop-k-preserved c =
     let a = c.args in
-    (omega arith, c.loop-k.invariant.1 ∙ same_next a.t1 a.t2 c.loop-k.k (omega arith) (omega arith) ∙ rw (eq-eqb _ _ c.if-a-k.false))
+    (omega arith, c.loop-k.invariant.1 ∙ same_next a.a a.b c.loop-k.k (omega arith) (omega arith) ∙ rw (eq-eqb _ _ c.if-a-k.false))
 
 pub returns : goal.returns
 returns c =
     let a = c.args in
-    sym (c.loop-k.invariant.1 ∙ same_end a.t1 a.t2 c.loop-k.k (omega arith) (omega arith))
+    sym (c.loop-k.invariant.1 ∙ same_end a.a a.b c.loop-k.k (omega arith) (omega arith))

@@ -18,32 +18,42 @@ use Rattle.turning.proofs.turn_list.Goals as goal
 abbrev goal : Order → ℕ → List ℕ → List ℕ
 goal order count s = turn_runs_at first_place (runs_in order count (drop first_place s)) s
 
--- one more is to be turned
-turning : (c : tie.At-loop invariant-loop decreases-loop) → c.loop.k < c.before.before.args.count → let a = c.before.before.args in Turning (goal a.order a.count a.file.now) a.order (suc (a.count - (c.loop.k + 1))) c.loop.at c.loop.file
-turning c h =
-    let count = c.before.before.args.count in
-    let e : count - c.loop.k ≡ suc (count - (c.loop.k + 1)) = omega arith in
-    rw e at c.loop.invariant.1.1
-
 pub loop-k-init : goal.loop-k-init
 loop-k-init c = (omega arith, (refl, rw sub-zero record { stand = c.requires; comes = refl }))
 
 pub read_u32-size-requires : goal.read_u32-size-requires
-read_u32-size-requires c = omega (arith, turn_room (turning c c.loop-k-test.true))
+read_u32-size-requires c =
+    let turning : c.loop-k.k < c.args.count → let a = c.args in Turning (goal a.order a.count a.file.now) a.order (suc (a.count - (c.loop-k.k + 1))) c.loop-k.at c.loop-k.file = λ h.
+        let count = c.args.count in
+        let e : count - c.loop-k.k ≡ suc (count - (c.loop-k.k + 1)) = omega arith in
+        rw e at c.loop-k.invariant.1.1 in
+    omega (arith, turn_room (turning c.loop-k-test.true))
 
 pub turn_units-requires : goal.turn_units-requires
 turn_units-requires c =
-    omega (arith, turn_room (turning c c.loop-k-test.true))
+    let turning : c.loop-k.k < c.args.count → let a = c.args in Turning (goal a.order a.count a.file.now) a.order (suc (a.count - (c.loop-k.k + 1))) c.loop-k.at c.loop-k.file = λ h.
+        let count = c.args.count in
+        let e : count - c.loop-k.k ≡ suc (count - (c.loop-k.k + 1)) = omega arith in
+        rw e at c.loop-k.invariant.1.1 in
+    omega (arith, turn_room (turning c.loop-k-test.true))
 
 pub overflow_add-at : goal.overflow_add-at
 overflow_add-at c =
-    omega (arith, turn_room (turning c c.loop-k-test.true))
+    let turning : c.loop-k.k < c.args.count → let a = c.args in Turning (goal a.order a.count a.file.now) a.order (suc (a.count - (c.loop-k.k + 1))) c.loop-k.at c.loop-k.file = λ h.
+        let count = c.args.count in
+        let e : count - c.loop-k.k ≡ suc (count - (c.loop-k.k + 1)) = omega arith in
+        rw e at c.loop-k.invariant.1.1 in
+    omega (arith, turn_room (turning c.loop-k-test.true))
 
 pub loop-k-preserved : goal.loop-k-preserved
 loop-k-preserved c =
+    let turning : c.loop-k.k < c.args.count → let a = c.args in Turning (goal a.order a.count a.file.now) a.order (suc (a.count - (c.loop-k.k + 1))) c.loop-k.at c.loop-k.file = λ h.
+        let count = c.args.count in
+        let e : count - c.loop-k.k ≡ suc (count - (c.loop-k.k + 1)) = omega arith in
+        rw e at c.loop-k.invariant.1.1 in
     let after = c.turn_units in
     let size = c.read_u32-size in
-    let t = turning c c.loop-k-test.true in
+    let t = turning c.loop-k-test.true in
     (omega arith, (after.auto.buf ∙ c.loop-k.invariant.1.0, rw size.ensures (turn_next t _ after.ensures)))
 
 pub returns : goal.returns

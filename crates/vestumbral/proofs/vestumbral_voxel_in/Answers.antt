@@ -11,13 +11,13 @@ use Rattle.vestumbral.proofs.vestumbral_voxel_in.Goals as goal
 
 pub returns-then-file-ne0 : goal.returns-then-file-ne0
 unfolding voxel_in
-returns-then-file-ne0 c = rw (ne_eqb c.args.t1.refusal 0 c.if-file-ne0.true) c.own_refusal.ensures
+returns-then-file-ne0 c = rw (ne_eqb c.args.file.refusal 0 c.if-file-ne0.true) c.own_refusal.ensures
 
 pub returns : goal.returns
 unfolding voxel_in
 returns c =
     let a = c.args in
-    let f = a.t1 in
+    let f = a.file in
     let index = a.i1 ∷ a.i2 ∷ a.i3 ∷ a.i4 ∷ a.i5 ∷ a.i6 ∷ a.i7 ∷ [] in
     let by = ap (λ (x : Kind). stepped_by (volume f.dim f.data_offset f.data_bytes f.step x) a.image_len index) c.kind_by-kind.ensures in
     rw (eq-eqb f.refusal 0 c.if-file-ne0.false) (c.voxel_reply.ensures ∙ ap voxel_reply (c.locate_at-located.ensures ∙ by))

@@ -15,13 +15,13 @@ locate_at-requires c = (omega (arith, slice-aggregate-locate-at c), omega (arith
 pub returns-in-Refused : goal.returns-in-Refused
 returns-in-Refused c =
     let a = c.args in
-    ap Unlocated c.misplaced.ensures ∙ in_refused a.header a.len a.t3 c.in-Refused.r (sym c.decode-offset.ensures ∙ c.in-Refused.is)
+    ap Unlocated c.misplaced.ensures ∙ in_refused a.header a.len a.index c.in-Refused.r (sym c.decode-offset.ensures ∙ c.in-Refused.is)
 
 pub returns-in_default : goal.returns-in_default
 returns-in_default c =
     let a = c.args in
     let h = a.header in
     c.locate_at.ensures
-    ∙ ap (λ (n : ℕ). stepped_by (volume h.dim n h.sizes.total h.sizes.steps h.kind) a.len a.t3) c.whole_in-at.ensures
-    ∙ in_whole h a.len a.t3 c.decode-offset.result (sym c.decode-offset.ensures)
+    ∙ ap (λ (n : ℕ). stepped_by (volume h.dim n h.sizes.total h.sizes.steps h.kind) a.len a.index) c.whole_in-at.ensures
+    ∙ in_whole h a.len a.index c.decode-offset.result (sym c.decode-offset.ensures)
     (λ r e. ⊎_elim (λ k. omega arith) (λ k. omega arith) (rw e at c.in_default.in_default-own.keys2))

@@ -11,5 +11,5 @@ returns c =
     let a = c.args in
     let w = c.requires.0 in
     rw (← wide_twice w)
-    (turned_join a.unit a.at 16 (16 / a.unit) (16 / a.unit) a.buf.now c.turn_pairs.new.0 c.turn_words.new.0 (wide_sixteen w)
+    (turned_join a.unit a.at 16 (16 / a.unit) (16 / a.unit) a.buf.now c.turn_pairs.new.buf c.turn_words.new.buf (wide_sixteen w)
     (omega (arith, c.requires.1)) c.turn_pairs.ensures c.turn_words.ensures)

@@ -32,9 +32,9 @@ returns-in-4 c =
     let seventh : pair_bytes g ≡ reverse (take 2 (drop 12 (drop at s))) = part_at s at c.pre.1 2 12 c.turned-at7.ensures in
     let eighth : pair_bytes h ≡ reverse (take 2 (drop 14 (drop at s))) = part_at s at c.pre.1 2 14 c.turned_at-h.ensures in
     let stored =
-    two_stored at 8 (four b a d c) (four f e h g) s c.put_four.new.0 c.put_four-in-4.new.0
+    two_stored at 8 (four b a d c) (four f e h g) s c.put_four.new.buf c.put_four-in-4.new.buf
     (length_four b a d c) c.put_four.ensures c.put_four-in-4.ensures in
-    rw c.in-4.is.keys1
+    rw c.in-4.is
     (stored ∙ pairs_fours s at c.requires.1 first second third fourth fifth sixth seventh eighth)
 
 pub returns-in-8 : goal.returns-in-8
@@ -58,9 +58,9 @@ returns-in-8 c =
     let seventh : pair_bytes g ≡ reverse (take 2 (drop 12 (drop at s))) = part_at s at c.pre.1 2 12 c.turned-at7.ensures in
     let eighth : pair_bytes h ≡ reverse (take 2 (drop 14 (drop at s))) = part_at s at c.pre.1 2 14 c.turned_at-h.ensures in
     let stored =
-    two_stored at 8 (four d c b a) (four h g f e) s c.put_four-in-8.new.0 c.put_four-in-8-2.new.0
+    two_stored at 8 (four d c b a) (four h g f e) s c.put_four-in-8.new.buf c.put_four-in-8-2.new.buf
     (length_four d c b a) c.put_four-in-8.ensures c.put_four-in-8-2.ensures in
-    rw c.in-8.is.keys2
+    rw c.in-8.is
     (stored ∙ pairs_eights s at c.requires.1 first second third fourth fifth sixth seventh eighth)
 
 pub returns-in_default : goal.returns-in_default
@@ -84,7 +84,7 @@ returns-in_default c =
     let seventh : pair_bytes g ≡ reverse (take 2 (drop 12 (drop at s))) = part_at s at c.pre.1 2 12 c.turned-at7.ensures in
     let eighth : pair_bytes h ≡ reverse (take 2 (drop 14 (drop at s))) = part_at s at c.pre.1 2 14 c.turned_at-h.ensures in
     let stored =
-    two_stored at 8 (four h g f e) (four d c b a) s c.put_four-in_default.new.0 c.put_four-in_default-2.new.0
+    two_stored at 8 (four h g f e) (four d c b a) s c.put_four-in_default.new.buf c.put_four-in_default-2.new.buf
     (length_four h g f e) c.put_four-in_default.ensures c.put_four-in_default-2.ensures in
     rw (wide_other c.requires.0 c.in_default.in_default-own.rest.0.1 c.in_default.in_default-own.rest.1)
     (stored ∙ pairs_sixteens s at c.requires.1 first second third fourth fifth sixth seventh eighth)

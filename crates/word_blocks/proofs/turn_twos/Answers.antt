@@ -11,4 +11,4 @@ turned-requires c = search (twos, fours, eight)
 pub returns : goal.returns
 returns c =
     word_turned c.args.buf.now (λ i. (c.slice_known-1.given i).fits) 2 c.args.at refl c.requires c.word_at-word.result
-    c.turned.result c.put_word.new.0 c.word_at-word.ensures c.turned.ensures c.put_word.ensures
+    c.turned.result c.put_word.new.buf c.word_at-word.ensures c.turned.ensures c.put_word.ensures

@@ -11,5 +11,5 @@ returns c =
     let a = c.args in
     let w = c.requires.0 in
     rw (← wide_twice_again w)
-    (turned_join a.unit a.at 32 (32 / a.unit) (32 / a.unit) a.buf.now c.turn_both.new.0 c.turn_both-2.new.0 (wide_thirty_two w)
+    (turned_join a.unit a.at 32 (32 / a.unit) (32 / a.unit) a.buf.now c.turn_both.new.buf c.turn_both-2.new.buf (wide_thirty_two w)
     (omega (arith, c.requires.1)) c.turn_both.ensures c.turn_both-2.ensures)

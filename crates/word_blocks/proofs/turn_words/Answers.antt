@@ -41,9 +41,9 @@ returns-in-4 c =
     let t = c.turned in
     let u = c.turned-in-4 in
     let stored =
-    two_stored at 8 (word_bytes t.result) (word_bytes u.result) s c.put_word.new.0 c.put_word-in-4.new.0
+    two_stored at 8 (word_bytes t.result) (word_bytes u.result) s c.put_word.new.buf c.put_word-in-4.new.buf
     (length-word_bytes t.result) c.put_word.ensures c.put_word-in-4.ensures in
-    rw c.in-4.is.keys1
+    rw c.in-4.is
     (stored ∙ words_kept s at c.requires.1 4 (one 4 t.result t.ensures) (other 4 u.result u.ensures) refl refl)
 
 pub returns-in-8 : goal.returns-in-8
@@ -56,9 +56,9 @@ returns-in-8 c =
     let t = c.turned-in-8 in
     let u = c.turned-in-8-2 in
     let stored =
-    two_stored at 8 (word_bytes t.result) (word_bytes u.result) s c.put_word-in-8.new.0 c.put_word-in-8-2.new.0
+    two_stored at 8 (word_bytes t.result) (word_bytes u.result) s c.put_word-in-8.new.buf c.put_word-in-8-2.new.buf
     (length-word_bytes t.result) c.put_word-in-8.ensures c.put_word-in-8-2.ensures in
-    rw c.in-8.is.keys2
+    rw c.in-8.is
     (stored ∙ words_kept s at c.requires.1 8 (one 8 t.result t.ensures) (other 8 u.result u.ensures) refl refl)
 
 pub returns-in_default : goal.returns-in_default
@@ -71,7 +71,7 @@ returns-in_default c =
     let t = c.turned-in_default in
     let u = c.turned-in_default-2 in
     let stored =
-    two_stored at 8 (word_bytes t.result) (word_bytes u.result) s c.put_word-in_default.new.0 c.put_word-in_default-2.new.0
+    two_stored at 8 (word_bytes t.result) (word_bytes u.result) s c.put_word-in_default.new.buf c.put_word-in_default-2.new.buf
     (length-word_bytes t.result) c.put_word-in_default.ensures c.put_word-in_default-2.ensures in
     rw (wide_other c.requires.0 c.in_default.in_default-own.rest.0.1 c.in_default.in_default-own.rest.1)
     (stored ∙ words_crossed s at c.requires.1 (one 8 u.result u.ensures) (other 8 t.result t.ensures))

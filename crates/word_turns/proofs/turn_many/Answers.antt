@@ -4,25 +4,25 @@ use borrow.Author.Rules.{rules}
 use Rattle.word_turns.proofs.turn_many.Goals as goal
 
 pub turn_twos-requires : goal.turn_twos-requires
-turn_twos-requires c = rw c.in-2.is.keys1.keys1 at c.requires
+turn_twos-requires c = rw c.in-2.is at c.requires
 
 pub turn_wide-requires : goal.turn_wide-requires
-turn_wide-requires c = (fours, rw c.in-4.is.keys2.keys2 at c.requires)
+turn_wide-requires c = (fours, rw c.in-4.is at c.requires)
 
 pub turn_wide-requires-in-8 : goal.turn_wide-requires-in-8
-turn_wide-requires-in-8 c = (eights, rw c.in-8.is.keys3.keys3 at c.requires)
+turn_wide-requires-in-8 c = (eights, rw c.in-8.is at c.requires)
 
 pub turn_wide-requires-in-16 : goal.turn_wide-requires-in-16
-turn_wide-requires-in-16 c = (sixteens, rw c.in-16.is.keys4.keys4 at c.requires)
+turn_wide-requires-in-16 c = (sixteens, rw c.in-16.is at c.requires)
 
 pub returns-in-2 : goal.returns-in-2
-returns-in-2 c = rw c.in-2.is.keys1.keys1 c.turn_twos.ensures
+returns-in-2 c = rw c.in-2.is c.turn_twos.ensures
 
 pub returns-in-4 : goal.returns-in-4
-returns-in-4 c = rw c.in-4.is.keys2.keys2 c.turn_wide.ensures
+returns-in-4 c = rw c.in-4.is c.turn_wide.ensures
 
 pub returns-in-8 : goal.returns-in-8
-returns-in-8 c = rw c.in-8.is.keys3.keys3 c.turn_wide-in-8.ensures
+returns-in-8 c = rw c.in-8.is c.turn_wide-in-8.ensures
 
 pub returns-in-16 : goal.returns-in-16
-returns-in-16 c = rw c.in-16.is.keys4.keys4 c.turn_wide-in-16.ensures
+returns-in-16 c = rw c.in-16.is c.turn_wide-in-16.ensures

@@ -18,7 +18,7 @@ loop-left-preserved c =
     let a = c.args in
     left_next 2 a.start a.count a.buf.now (omega arith) 4 8 refl (a.start + a.count * 2)
     v.left v.buf v.invariant c.loop-left-test.true
-    c.turn_twos.new.0 c.turn_twos.auto.buf c.turn_twos.ensures
+    c.turn_twos.new.buf c.turn_twos.auto.buf c.turn_twos.ensures
 
 pub turn_units-requires : goal.turn_units-requires
 turn_units-requires c =
@@ -30,4 +30,4 @@ returns c =
     let v = c.loop-left in
     let a = c.args in
     left_rest 2 a.start a.count a.buf.now (omega arith) (a.start + a.count * 2)
-    v.left v.buf c.turn_units.new.0 v.invariant c.turn_units.ensures
+    v.left v.buf c.turn_units.new.buf v.invariant c.turn_units.ensures

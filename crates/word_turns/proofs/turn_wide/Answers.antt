@@ -18,7 +18,7 @@ loop-left-preserved c =
     let a = c.args in
     left_next a.unit a.start a.count a.buf.now (wide_positive c.requires.0) (64 / a.unit) 64 (wide_fills c.requires.0) (a.start + a.count * a.unit)
     v.left v.buf v.invariant c.loop-left-test.true
-    c.turn_wide.new.0 c.turn_wide.auto.buf c.turn_wide.ensures
+    c.turn_wide.new.buf c.turn_wide.auto.buf c.turn_wide.ensures
 
 pub nonzero_div-left : goal.nonzero_div-left
 nonzero_div-left c = wide_positive c.requires.0
@@ -33,4 +33,4 @@ returns c =
     let v = c.loop-left in
     let a = c.args in
     left_rest a.unit a.start a.count a.buf.now (wide_positive c.requires.0) (a.start + a.count * a.unit)
-    v.left v.buf c.turn_units.new.0 v.invariant c.turn_units.ensures
+    v.left v.buf c.turn_units.new.buf v.invariant c.turn_units.ensures

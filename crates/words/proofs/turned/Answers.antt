@@ -4,10 +4,10 @@ use borrow.Author.Rules.{rules}
 use Rattle.words.proofs.turned.Goals as goal
 
 pub returns-in-2 : goal.returns-in-2
-returns-in-2 c = rw c.in-2.is.keys1.keys1 c.twos.ensures
+returns-in-2 c = rw c.in-2.is c.twos.ensures
 
 pub returns-in-4 : goal.returns-in-4
-returns-in-4 c = rw c.in-4.is.keys2.keys2 c.fours.ensures
+returns-in-4 c = rw c.in-4.is c.fours.ensures
 
 pub returns-in_default : goal.returns-in_default
 returns-in_default c = rw (fills_other c.requires c.in_default.in_default-own.rest.0.1 c.in_default.in_default-own.rest.1) c.eight.ensures
