@@ -36,7 +36,7 @@ returns-then-not-has_magic c =
         let n = c.read_i32 in
         rw (c.requires.1, ← n.ensures) (number_bits w32 n.result 348 (record { sfits = n.type_inv }) (omega arith)) in
     let sized : sized-as ≡ true = by_size ∙ eq-eqb (of_z w32 c.read_i32.result) 348 c.if-read_i32-ne348.false in
-    let other = rw c.kind_of-kind.ensures at (sym c.has_magic.ensures ∙ not-true _ c.if-not-has_magic.true) in
+    let other = rw c.kind_of-kind.ensures at (sym c.has_magic.ensures ∙ c.if-not-has_magic.true) in
     c.unread-then-not-has_magic.ensures ∙ starts_4 bytes len long ordered sized other
 
 pub returns : goal.returns
@@ -48,5 +48,5 @@ returns c =
         let n = c.read_i32 in
         rw (c.requires.1, ← n.ensures) (number_bits w32 n.result 348 (record { sfits = n.type_inv }) (omega arith)) in
     let sized : sized-as ≡ true = by_size ∙ eq-eqb (of_z w32 c.read_i32.result) 348 c.if-read_i32-ne348.false in
-    let own = rw c.kind_of-kind.ensures at (sym c.has_magic.ensures ∙ not-false _ c.if-not-has_magic.false) in
+    let own = rw c.kind_of-kind.ensures at (sym c.has_magic.ensures ∙ c.if-not-has_magic.false) in
     rw (← c.requires.1, c.kind_of-kind.ensures) (starts_read bytes len long ordered sized own)

@@ -18,11 +18,11 @@ pub returns-then-not-is_inside : goal.returns-then-not-is_inside
 returns-then-not-is_inside c =
     let a = c.args in
     c.refused.ensures
-    ∙ position_outside a.f a.i a.j a.k (sym c.is_inside.ensures.is ∙ not-true _ c.if-not-is_inside.true)
+    ∙ position_outside a.f a.i a.j a.k (sym c.is_inside.ensures.is ∙ c.if-not-is_inside.true)
 
 pub returns-then-f-le0 : goal.returns-then-f-le0
 returns-then-f-le0 c =
-    let inside : let a = c.args in within (three_axes a.f.dim) (a.i ∷ a.j ∷ a.k ∷ []) ≡ true = sym c.is_inside.ensures.is ∙ not-false _ c.if-not-is_inside.false in
+    let inside : let a = c.args in within (three_axes a.f.dim) (a.i ∷ a.j ∷ a.k ∷ []) ≡ true = sym c.is_inside.ensures.is ∙ c.if-not-is_inside.false in
     let code_same : let z = c.args.f.sform_code in to_z w16 (of_z w16 z) ≡ z = search rules in
     let a = c.args in
     let unset = (λ n. le_z (sym code_same n) (pos 0)) ∙ c.if-f-le0.true in
@@ -30,22 +30,22 @@ returns-then-f-le0 c =
 
 pub overflow_cast-i : goal.overflow_cast-i
 overflow_cast-i c =
-    let small : let a = c.args in SmallIndex a.i a.j a.k = c.is_inside.ensures.small (not-false _ c.if-not-is_inside.false) in
+    let small : let a = c.args in SmallIndex a.i a.j a.k = c.is_inside.ensures.small (c.if-not-is_inside.false) in
     record { fits = omega (arith, small.first) }
 
 pub overflow_cast-j : goal.overflow_cast-j
 overflow_cast-j c =
-    let small : let a = c.args in SmallIndex a.i a.j a.k = c.is_inside.ensures.small (not-false _ c.if-not-is_inside.false) in
+    let small : let a = c.args in SmallIndex a.i a.j a.k = c.is_inside.ensures.small (c.if-not-is_inside.false) in
     record { fits = omega (arith, small.second) }
 
 pub overflow_cast-k : goal.overflow_cast-k
 overflow_cast-k c =
-    let small : let a = c.args in SmallIndex a.i a.j a.k = c.is_inside.ensures.small (not-false _ c.if-not-is_inside.false) in
+    let small : let a = c.args in SmallIndex a.i a.j a.k = c.is_inside.ensures.small (c.if-not-is_inside.false) in
     record { fits = omega (arith, small.third) }
 
 pub returns-in-At : goal.returns-in-At
 returns-in-At c =
-    let inside : let a = c.args in within (three_axes a.f.dim) (a.i ∷ a.j ∷ a.k ∷ []) ≡ true = sym c.is_inside.ensures.is ∙ not-false _ c.if-not-is_inside.false in
+    let inside : let a = c.args in within (three_axes a.f.dim) (a.i ∷ a.j ∷ a.k ∷ []) ≡ true = sym c.is_inside.ensures.is ∙ c.if-not-is_inside.false in
     let code_same : let z = c.args.f.sform_code in to_z w16 (of_z w16 z) ≡ z = search rules in
     let above : le_z c.args.f.sform_code (pos 0) ≡ false = (λ n. le_z (sym code_same n) (pos 0)) ∙ c.if-f-le0.false in
     let a = c.args in
@@ -54,7 +54,7 @@ returns-in-At c =
 
 pub returns-in-NoPosition : goal.returns-in-NoPosition
 returns-in-NoPosition c =
-    let inside : let a = c.args in within (three_axes a.f.dim) (a.i ∷ a.j ∷ a.k ∷ []) ≡ true = sym c.is_inside.ensures.is ∙ not-false _ c.if-not-is_inside.false in
+    let inside : let a = c.args in within (three_axes a.f.dim) (a.i ∷ a.j ∷ a.k ∷ []) ≡ true = sym c.is_inside.ensures.is ∙ c.if-not-is_inside.false in
     let code_same : let z = c.args.f.sform_code in to_z w16 (of_z w16 z) ≡ z = search rules in
     let above : le_z c.args.f.sform_code (pos 0) ≡ false = (λ n. le_z (sym code_same n) (pos 0)) ∙ c.if-f-le0.false in
     let a = c.args in

@@ -15,18 +15,18 @@ use Rattle.slice_rank.proofs.ranked_by.Goals as goal
 pub returns-then-not-has_ranks : goal.returns-then-not-has_ranks
 returns-then-not-has_ranks c =
     let a = c.args in
-    sym (rank_unstated a.a a.rank (sym c.has_ranks.ensures ∙ not-true _ c.if-not-has_ranks.true))
+    sym (rank_unstated a.a a.rank (sym c.has_ranks.ensures ∙ c.if-not-has_ranks.true))
 
 pub returns-then-count-rank : goal.returns-then-count-rank
 returns-then-count-rank c =
-    let is-stated : is_stated c.args.a ≡ true = sym c.has_ranks.ensures ∙ not-false _ c.if-not-has_ranks.false in
+    let is-stated : is_stated c.args.a ≡ true = sym c.has_ranks.ensures ∙ c.if-not-has_ranks.false in
     let count-is : c.acquired_count-count.result ≡ acquired_count c.args.a = c.acquired_count-count.ensures.0 in
     let a = c.args in
     sym (rank_outside a.a is-stated a.rank (omega (arith, count-is, c.if-count-rank.true)))
 
 pub slice_of-requires : goal.slice_of-requires
 slice_of-requires c =
-    let is-stated : is_stated c.args.a ≡ true = sym c.has_ranks.ensures ∙ not-false _ c.if-not-has_ranks.false in
+    let is-stated : is_stated c.args.a ≡ true = sym c.has_ranks.ensures ∙ c.if-not-has_ranks.false in
     let count-is : c.acquired_count-count.result ≡ acquired_count c.args.a = c.acquired_count-count.ensures.0 in
     let a = c.args in
     let h = stated_has a.a is-stated in
@@ -36,7 +36,7 @@ slice_of-requires c =
 
 pub returns : goal.returns
 returns c =
-    let is-stated : is_stated c.args.a ≡ true = sym c.has_ranks.ensures ∙ not-false _ c.if-not-has_ranks.false in
+    let is-stated : is_stated c.args.a ≡ true = sym c.has_ranks.ensures ∙ c.if-not-has_ranks.false in
     let count-is : c.acquired_count-count.result ≡ acquired_count c.args.a = c.acquired_count-count.ensures.0 in
     let a = c.args in
     ap At (c.slice_of.ensures

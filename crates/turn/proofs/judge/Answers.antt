@@ -31,20 +31,20 @@ returns-then-not-is_permutation c =
     let whole : let a = c.args in image_cut a.header.kind a.image a.place ≡ false = sym c.image_cut.ensures ∙ c.if-image_cut.false in
     let three : 3 ≤ axis_count c.args.header.dim = omega (arith, c.axis_count.ensures.0, c.if-axis_count-lt3.false) in
     let a = c.args in
-    let not = sym c.is_permutation.ensures ∙ not-true _ c.if-not-is_permutation.true in
+    let not = sym c.is_permutation.ensures ∙ c.if-not-is_permutation.true in
     c.refused-then-not-is_permutation.ensures
     ∙ gives_30 a.header a.t a.file a.image a.out a.out_image a.place c.requires whole three not
 
 pub not_finite-requires : goal.not_finite-requires
 not_finite-requires c =
-    let permutation : is_permutation c.args.t ≡ true = sym c.is_permutation.ensures ∙ not-false _ c.if-not-is_permutation.false in
+    let permutation : is_permutation c.args.t ≡ true = sym c.is_permutation.ensures ∙ c.if-not-is_permutation.false in
     permutation
 
 pub returns-then-not_finite : goal.returns-then-not_finite
 returns-then-not_finite c =
     let whole : let a = c.args in image_cut a.header.kind a.image a.place ≡ false = sym c.image_cut.ensures ∙ c.if-image_cut.false in
     let three : 3 ≤ axis_count c.args.header.dim = omega (arith, c.axis_count.ensures.0, c.if-axis_count-lt3.false) in
-    let permutation : is_permutation c.args.t ≡ true = sym c.is_permutation.ensures ∙ not-false _ c.if-not-is_permutation.false in
+    let permutation : is_permutation c.args.t ≡ true = sym c.is_permutation.ensures ∙ c.if-not-is_permutation.false in
     let a = c.args in
     let infinite = sym c.not_finite.ensures ∙ c.if-not_finite.true in
     c.refused-then-not_finite.ensures
@@ -55,7 +55,7 @@ pub returns-then-out-file : goal.returns-then-out-file
 returns-then-out-file c =
     let whole : let a = c.args in image_cut a.header.kind a.image a.place ≡ false = sym c.image_cut.ensures ∙ c.if-image_cut.false in
     let three : 3 ≤ axis_count c.args.header.dim = omega (arith, c.axis_count.ensures.0, c.if-axis_count-lt3.false) in
-    let permutation : is_permutation c.args.t ≡ true = sym c.is_permutation.ensures ∙ not-false _ c.if-not-is_permutation.false in
+    let permutation : is_permutation c.args.t ≡ true = sym c.is_permutation.ensures ∙ c.if-not-is_permutation.false in
     let finite : let a = c.args in not_finite a.t a.header ≡ false = sym c.not_finite.ensures ∙ c.if-not_finite.false in
     let a = c.args in
     c.refused-then-out-file.ensures
@@ -66,7 +66,7 @@ pub returns-then-is_longer : goal.returns-then-is_longer
 returns-then-is_longer c =
     let whole : let a = c.args in image_cut a.header.kind a.image a.place ≡ false = sym c.image_cut.ensures ∙ c.if-image_cut.false in
     let three : 3 ≤ axis_count c.args.header.dim = omega (arith, c.axis_count.ensures.0, c.if-axis_count-lt3.false) in
-    let permutation : is_permutation c.args.t ≡ true = sym c.is_permutation.ensures ∙ not-false _ c.if-not-is_permutation.false in
+    let permutation : is_permutation c.args.t ≡ true = sym c.is_permutation.ensures ∙ c.if-not-is_permutation.false in
     let finite : let a = c.args in not_finite a.t a.header ≡ false = sym c.not_finite.ensures ∙ c.if-not_finite.false in
     let a = c.args in
     let longer = sym c.is_longer.ensures ∙ c.if-is_longer.true in
@@ -78,7 +78,7 @@ pub returns : goal.returns
 returns c =
     let whole : let a = c.args in image_cut a.header.kind a.image a.place ≡ false = sym c.image_cut.ensures ∙ c.if-image_cut.false in
     let three : 3 ≤ axis_count c.args.header.dim = omega (arith, c.axis_count.ensures.0, c.if-axis_count-lt3.false) in
-    let permutation : is_permutation c.args.t ≡ true = sym c.is_permutation.ensures ∙ not-false _ c.if-not-is_permutation.false in
+    let permutation : is_permutation c.args.t ≡ true = sym c.is_permutation.ensures ∙ c.if-not-is_permutation.false in
     let finite : let a = c.args in not_finite a.t a.header ≡ false = sym c.not_finite.ensures ∙ c.if-not_finite.false in
     let a = c.args in
     let fits = sym c.is_longer.ensures ∙ c.if-is_longer.false in

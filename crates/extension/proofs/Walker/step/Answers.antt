@@ -7,7 +7,5 @@ use Rattle.extension.proofs.Walker.step.Goals as goal
 pub returns : goal.returns
 unfolding step_of
 returns c =
-    let n = c.before.before in
-    let m = n.before in
-    let a = m.args in
-    rw (← part_rest a.file.now a.self.end a.self.at _ _ m.lesser-stop.ensures n.lesser-from.ensures) c.step_over.ensures
+    let a = c.args in
+    rw (← part_rest a.file.now a.self.end a.self.at _ _ c.lesser-stop.ensures c.lesser-from.ensures) c.step_over.ensures

@@ -14,15 +14,11 @@ pub returns-then-passes_total : goal.returns-then-passes_total
 unfolding taken_of
 returns-then-passes_total c = rw (sym c.passes_total.ensures ∙ c.if-passes_total.true)
 
--- past its test the piece fits
-fits : (c : goal.Else-passes_total) → let a = c.args in passes_total a.self.taken (length a.piece.now) ≡ false
-fits c = sym c.passes_total.ensures ∙ c.if-passes_total.false
-
-room : (c : goal.Else-passes_total) → let a = c.args in a.self.taken + length a.piece.now ≤ total_limit
-room c = ltb-false total_limit _ (fits c)
-
 pub overflow_add-total : goal.overflow_add-total
-overflow_add-total c = omega (arith, room c)
+overflow_add-total c =
+    let fits : let a = c.args in passes_total a.self.taken (length a.piece.now) ≡ false = sym c.passes_total.ensures ∙ c.if-passes_total.false in
+    let room : let a = c.args in a.self.taken + length a.piece.now ≤ total_limit = ltb-false total_limit _ fits in
+    omega (arith, room)
 
 pub is_skipped-requires : goal.is_skipped-requires
 is_skipped-requires c = omega (arith, slice-aggregate-is-skipped c)
@@ -30,15 +26,18 @@ is_skipped-requires c = omega (arith, slice-aggregate-is-skipped c)
 pub returns-then-is_skipped : goal.returns-then-is_skipped
 unfolding taken_of taken_with
 returns-then-is_skipped c =
-    let k = c.before in
-    rw (fits k.before.before, sym k.is_skipped.ensures ∙ c.if-is_skipped.true)
+    let fits : let a = c.args in passes_total a.self.taken (length a.piece.now) ≡ false = sym c.passes_total.ensures ∙ c.if-passes_total.false in
+    rw (fits, sym c.is_skipped.ensures ∙ c.if-is_skipped.true)
 
 pub read_on-requires : goal.read_on-requires
-read_on-requires c = room c.before.before.before
+read_on-requires c =
+    let fits : let a = c.args in passes_total a.self.taken (length a.piece.now) ≡ false = sym c.passes_total.ensures ∙ c.if-passes_total.false in
+    let room : let a = c.args in a.self.taken + length a.piece.now ≤ total_limit = ltb-false total_limit _ fits in
+    room
 
 pub returns : goal.returns
 unfolding taken_of taken_with
 returns c =
-    let k = c.before.before in
-    rw (fits k.before.before, sym k.is_skipped.ensures ∙ c.if-is_skipped.false)
+    let fits : let a = c.args in passes_total a.self.taken (length a.piece.now) ≡ false = sym c.passes_total.ensures ∙ c.if-passes_total.false in
+    rw (fits, sym c.is_skipped.ensures ∙ c.if-is_skipped.false)
     (ap (λ s. record { verdict = Accepted; pieces = s }) c.read_on.ensures)
