@@ -27,10 +27,10 @@ returns-then-is_missing c =
     let change-at = c.args.change in
     let code_at = c.args.code in
     let payload-at = c.args.payload.now in
-    let missing_at : {t : Bool} → c.is_missing.result ≡ t → missing_in change-at outline-at.count ≡ t = λ e. sym c.is_missing.ensures ∙ e in
+    let missing_at : (t : Bool) → c.is_missing.result ≡ t → missing_in change-at outline-at.count ≡ t = λ t e. sym c.is_missing.ensures ∙ e in
     c.stop.ensures
     ∙ on_18 file-at room_at change-at code_at payload-at outline-at c.requires
-    (missing_at c.if-is_missing.true)
+    (missing_at _ c.if-is_missing.true)
 
 pub returns-then-offers_negative : goal.returns-then-offers_negative
 returns-then-offers_negative c =
@@ -40,12 +40,12 @@ returns-then-offers_negative c =
     let change-at = c.args.change in
     let code_at = c.args.code in
     let payload-at = c.args.payload.now in
-    let missing_at : {t : Bool} → c.is_missing.result ≡ t → missing_in change-at outline-at.count ≡ t = λ e. sym c.is_missing.ensures ∙ e in
-    let negative-at : {t : Bool} → c.offers_negative.result ≡ t → offers_negative change-at code_at ≡ t = λ e.
+    let missing_at : (t : Bool) → c.is_missing.result ≡ t → missing_in change-at outline-at.count ≡ t = λ t e. sym c.is_missing.ensures ∙ e in
+    let negative-at : (t : Bool) → c.offers_negative.result ≡ t → offers_negative change-at code_at ≡ t = λ t e.
         rw (to_z-of_z w32 c.args.code s.fits.code) at (sym c.offers_negative.ensures ∙ e) in
     c.stop-then-offers_negative.ensures
     ∙ on_19 file-at room_at change-at code_at payload-at outline-at c.requires
-    (missing_at c.if-is_missing.false) (negative-at c.if-offers_negative.true)
+    (missing_at _ c.if-is_missing.false) (negative-at _ c.if-offers_negative.true)
 
 pub returns-then-enters_bytes : goal.returns-then-enters_bytes
 returns-then-enters_bytes c =
@@ -56,13 +56,13 @@ returns-then-enters_bytes c =
     let code_at = c.args.code in
     let payload-at = c.args.payload.now in
     let region-at : c.greater-end.result ≡ max (region_end outline-at.layout.kind outline-at.layout.image (length file-at)) first_place = c.greater-end.ensures ∙ ap (λ (n : ℕ). max n first_place) c.region_end.ensures in
-    let missing_at : {t : Bool} → c.is_missing.result ≡ t → missing_in change-at outline-at.count ≡ t = λ e. sym c.is_missing.ensures ∙ e in
-    let negative-at : {t : Bool} → c.offers_negative.result ≡ t → offers_negative change-at code_at ≡ t = λ e.
+    let missing_at : (t : Bool) → c.is_missing.result ≡ t → missing_in change-at outline-at.count ≡ t = λ t e. sym c.is_missing.ensures ∙ e in
+    let negative-at : (t : Bool) → c.offers_negative.result ≡ t → offers_negative change-at code_at ≡ t = λ t e.
         rw (to_z-of_z w32 c.args.code s.fits.code) at (sym c.offers_negative.ensures ∙ e) in
-    let enters-at : {t : Bool} → c.enters_bytes.result ≡ t → enters_bytes change-at outline-at.count (max (region_end outline-at.layout.kind outline-at.layout.image (length file-at)) first_place) ≡ t = λ e. rw region-at at (sym c.enters_bytes.ensures ∙ e) in
+    let enters-at : (t : Bool) → c.enters_bytes.result ≡ t → enters_bytes change-at outline-at.count (max (region_end outline-at.layout.kind outline-at.layout.image (length file-at)) first_place) ≡ t = λ t e. rw region-at at (sym c.enters_bytes.ensures ∙ e) in
     c.stop-then-enters_bytes.ensures
     ∙ on_20 file-at room_at change-at code_at payload-at outline-at c.requires
-    (missing_at c.if-is_missing.false) (negative-at c.if-offers_negative.false) (enters-at c.if-enters_bytes.true)
+    (missing_at _ c.if-is_missing.false) (negative-at _ c.if-offers_negative.false) (enters-at _ c.if-enters_bytes.true)
 
 pub overflow_sub-next : goal.overflow_sub-next
 overflow_sub-next c =
@@ -73,15 +73,15 @@ overflow_sub-next c =
     let code_at = c.args.code in
     let payload-at = c.args.payload.now in
     let region-at : c.greater-end.result ≡ max (region_end outline-at.layout.kind outline-at.layout.image (length file-at)) first_place = c.greater-end.ensures ∙ ap (λ (n : ℕ). max n first_place) c.region_end.ensures in
-    let missing_at : {t : Bool} → c.is_missing.result ≡ t → missing_in change-at outline-at.count ≡ t = λ e. sym c.is_missing.ensures ∙ e in
-    let negative-at : {t : Bool} → c.offers_negative.result ≡ t → offers_negative change-at code_at ≡ t = λ e.
+    let missing_at : (t : Bool) → c.is_missing.result ≡ t → missing_in change-at outline-at.count ≡ t = λ t e. sym c.is_missing.ensures ∙ e in
+    let negative-at : (t : Bool) → c.offers_negative.result ≡ t → offers_negative change-at code_at ≡ t = λ t e.
         rw (to_z-of_z w32 c.args.code s.fits.code) at (sym c.offers_negative.ensures ∙ e) in
-    let enters-at : {t : Bool} → c.enters_bytes.result ≡ t → enters_bytes change-at outline-at.count (max (region_end outline-at.layout.kind outline-at.layout.image (length file-at)) first_place) ≡ t = λ e. rw region-at at (sym c.enters_bytes.ensures ∙ e) in
+    let enters-at : (t : Bool) → c.enters_bytes.result ≡ t → enters_bytes change-at outline-at.count (max (region_end outline-at.layout.kind outline-at.layout.image (length file-at)) first_place) ≡ t = λ t e. rw region-at at (sym c.enters_bytes.ensures ∙ e) in
     let past-at : Past file-at change-at code_at =
         past file-at room_at change-at code_at payload-at outline-at c.requires
-        (missing_at c.if-is_missing.false)
-        (negative-at c.if-offers_negative.false)
-        (enters-at c.if-enters_bytes.false) in
+        (missing_at _ c.if-is_missing.false)
+        (negative-at _ c.if-offers_negative.false)
+        (enters-at _ c.if-enters_bytes.false) in
     let Numbers-at =
         Numbers file-at change-at payload-at c.greater-end.result
         c.slot_for-out.result.at c.slot_for-out.result.old c.new_size-new.result in
@@ -102,15 +102,15 @@ overflow_add-next c =
     let code_at = c.args.code in
     let payload-at = c.args.payload.now in
     let region-at : c.greater-end.result ≡ max (region_end outline-at.layout.kind outline-at.layout.image (length file-at)) first_place = c.greater-end.ensures ∙ ap (λ (n : ℕ). max n first_place) c.region_end.ensures in
-    let missing_at : {t : Bool} → c.is_missing.result ≡ t → missing_in change-at outline-at.count ≡ t = λ e. sym c.is_missing.ensures ∙ e in
-    let negative-at : {t : Bool} → c.offers_negative.result ≡ t → offers_negative change-at code_at ≡ t = λ e.
+    let missing_at : (t : Bool) → c.is_missing.result ≡ t → missing_in change-at outline-at.count ≡ t = λ t e. sym c.is_missing.ensures ∙ e in
+    let negative-at : (t : Bool) → c.offers_negative.result ≡ t → offers_negative change-at code_at ≡ t = λ t e.
         rw (to_z-of_z w32 c.args.code s.fits.code) at (sym c.offers_negative.ensures ∙ e) in
-    let enters-at : {t : Bool} → c.enters_bytes.result ≡ t → enters_bytes change-at outline-at.count (max (region_end outline-at.layout.kind outline-at.layout.image (length file-at)) first_place) ≡ t = λ e. rw region-at at (sym c.enters_bytes.ensures ∙ e) in
+    let enters-at : (t : Bool) → c.enters_bytes.result ≡ t → enters_bytes change-at outline-at.count (max (region_end outline-at.layout.kind outline-at.layout.image (length file-at)) first_place) ≡ t = λ t e. rw region-at at (sym c.enters_bytes.ensures ∙ e) in
     let past-at : Past file-at change-at code_at =
         past file-at room_at change-at code_at payload-at outline-at c.requires
-        (missing_at c.if-is_missing.false)
-        (negative-at c.if-offers_negative.false)
-        (enters-at c.if-enters_bytes.false) in
+        (missing_at _ c.if-is_missing.false)
+        (negative-at _ c.if-offers_negative.false)
+        (enters-at _ c.if-enters_bytes.false) in
     let Numbers-at =
         Numbers file-at change-at payload-at c.greater-end.result
         c.slot_for-out.result.at c.slot_for-out.result.old c.new_size-new.result in
@@ -130,15 +130,15 @@ returns-then-is_too_many-next c =
     let code_at = c.args.code in
     let payload-at = c.args.payload.now in
     let region-at : c.greater-end.result ≡ max (region_end outline-at.layout.kind outline-at.layout.image (length file-at)) first_place = c.greater-end.ensures ∙ ap (λ (n : ℕ). max n first_place) c.region_end.ensures in
-    let missing_at : {t : Bool} → c.is_missing.result ≡ t → missing_in change-at outline-at.count ≡ t = λ e. sym c.is_missing.ensures ∙ e in
-    let negative-at : {t : Bool} → c.offers_negative.result ≡ t → offers_negative change-at code_at ≡ t = λ e.
+    let missing_at : (t : Bool) → c.is_missing.result ≡ t → missing_in change-at outline-at.count ≡ t = λ t e. sym c.is_missing.ensures ∙ e in
+    let negative-at : (t : Bool) → c.offers_negative.result ≡ t → offers_negative change-at code_at ≡ t = λ t e.
         rw (to_z-of_z w32 c.args.code s.fits.code) at (sym c.offers_negative.ensures ∙ e) in
-    let enters-at : {t : Bool} → c.enters_bytes.result ≡ t → enters_bytes change-at outline-at.count (max (region_end outline-at.layout.kind outline-at.layout.image (length file-at)) first_place) ≡ t = λ e. rw region-at at (sym c.enters_bytes.ensures ∙ e) in
+    let enters-at : (t : Bool) → c.enters_bytes.result ≡ t → enters_bytes change-at outline-at.count (max (region_end outline-at.layout.kind outline-at.layout.image (length file-at)) first_place) ≡ t = λ t e. rw region-at at (sym c.enters_bytes.ensures ∙ e) in
     let past-at : Past file-at change-at code_at =
         past file-at room_at change-at code_at payload-at outline-at c.requires
-        (missing_at c.if-is_missing.false)
-        (negative-at c.if-offers_negative.false)
-        (enters-at c.if-enters_bytes.false) in
+        (missing_at _ c.if-is_missing.false)
+        (negative-at _ c.if-offers_negative.false)
+        (enters-at _ c.if-enters_bytes.false) in
     let Numbers-at =
         Numbers file-at change-at payload-at c.greater-end.result
         c.slot_for-out.result.at c.slot_for-out.result.old c.new_size-new.result in
@@ -160,15 +160,15 @@ overflow_sub-greater c =
     let code_at = c.args.code in
     let payload-at = c.args.payload.now in
     let region-at : c.greater-end.result ≡ max (region_end outline-at.layout.kind outline-at.layout.image (length file-at)) first_place = c.greater-end.ensures ∙ ap (λ (n : ℕ). max n first_place) c.region_end.ensures in
-    let missing_at : {t : Bool} → c.is_missing.result ≡ t → missing_in change-at outline-at.count ≡ t = λ e. sym c.is_missing.ensures ∙ e in
-    let negative-at : {t : Bool} → c.offers_negative.result ≡ t → offers_negative change-at code_at ≡ t = λ e.
+    let missing_at : (t : Bool) → c.is_missing.result ≡ t → missing_in change-at outline-at.count ≡ t = λ t e. sym c.is_missing.ensures ∙ e in
+    let negative-at : (t : Bool) → c.offers_negative.result ≡ t → offers_negative change-at code_at ≡ t = λ t e.
         rw (to_z-of_z w32 c.args.code s.fits.code) at (sym c.offers_negative.ensures ∙ e) in
-    let enters-at : {t : Bool} → c.enters_bytes.result ≡ t → enters_bytes change-at outline-at.count (max (region_end outline-at.layout.kind outline-at.layout.image (length file-at)) first_place) ≡ t = λ e. rw region-at at (sym c.enters_bytes.ensures ∙ e) in
+    let enters-at : (t : Bool) → c.enters_bytes.result ≡ t → enters_bytes change-at outline-at.count (max (region_end outline-at.layout.kind outline-at.layout.image (length file-at)) first_place) ≡ t = λ t e. rw region-at at (sym c.enters_bytes.ensures ∙ e) in
     let past-at : Past file-at change-at code_at =
         past file-at room_at change-at code_at payload-at outline-at c.requires
-        (missing_at c.if-is_missing.false)
-        (negative-at c.if-offers_negative.false)
-        (enters-at c.if-enters_bytes.false) in
+        (missing_at _ c.if-is_missing.false)
+        (negative-at _ c.if-offers_negative.false)
+        (enters-at _ c.if-enters_bytes.false) in
     let Numbers-at =
         Numbers file-at change-at payload-at c.greater-end.result
         c.slot_for-out.result.at c.slot_for-out.result.old c.new_size-new.result in
@@ -189,15 +189,15 @@ returns-then-room-greater c =
     let code_at = c.args.code in
     let payload-at = c.args.payload.now in
     let region-at : c.greater-end.result ≡ max (region_end outline-at.layout.kind outline-at.layout.image (length file-at)) first_place = c.greater-end.ensures ∙ ap (λ (n : ℕ). max n first_place) c.region_end.ensures in
-    let missing_at : {t : Bool} → c.is_missing.result ≡ t → missing_in change-at outline-at.count ≡ t = λ e. sym c.is_missing.ensures ∙ e in
-    let negative-at : {t : Bool} → c.offers_negative.result ≡ t → offers_negative change-at code_at ≡ t = λ e.
+    let missing_at : (t : Bool) → c.is_missing.result ≡ t → missing_in change-at outline-at.count ≡ t = λ t e. sym c.is_missing.ensures ∙ e in
+    let negative-at : (t : Bool) → c.offers_negative.result ≡ t → offers_negative change-at code_at ≡ t = λ t e.
         rw (to_z-of_z w32 c.args.code s.fits.code) at (sym c.offers_negative.ensures ∙ e) in
-    let enters-at : {t : Bool} → c.enters_bytes.result ≡ t → enters_bytes change-at outline-at.count (max (region_end outline-at.layout.kind outline-at.layout.image (length file-at)) first_place) ≡ t = λ e. rw region-at at (sym c.enters_bytes.ensures ∙ e) in
+    let enters-at : (t : Bool) → c.enters_bytes.result ≡ t → enters_bytes change-at outline-at.count (max (region_end outline-at.layout.kind outline-at.layout.image (length file-at)) first_place) ≡ t = λ t e. rw region-at at (sym c.enters_bytes.ensures ∙ e) in
     let past-at : Past file-at change-at code_at =
         past file-at room_at change-at code_at payload-at outline-at c.requires
-        (missing_at c.if-is_missing.false)
-        (negative-at c.if-offers_negative.false)
-        (enters-at c.if-enters_bytes.false) in
+        (missing_at _ c.if-is_missing.false)
+        (negative-at _ c.if-offers_negative.false)
+        (enters-at _ c.if-enters_bytes.false) in
     let Numbers-at =
         Numbers file-at change-at payload-at c.greater-end.result
         c.slot_for-out.result.at c.slot_for-out.result.old c.new_size-new.result in
@@ -220,15 +220,15 @@ returns c =
     let code_at = c.args.code in
     let payload-at = c.args.payload.now in
     let region-at : c.greater-end.result ≡ max (region_end outline-at.layout.kind outline-at.layout.image (length file-at)) first_place = c.greater-end.ensures ∙ ap (λ (n : ℕ). max n first_place) c.region_end.ensures in
-    let missing_at : {t : Bool} → c.is_missing.result ≡ t → missing_in change-at outline-at.count ≡ t = λ e. sym c.is_missing.ensures ∙ e in
-    let negative-at : {t : Bool} → c.offers_negative.result ≡ t → offers_negative change-at code_at ≡ t = λ e.
+    let missing_at : (t : Bool) → c.is_missing.result ≡ t → missing_in change-at outline-at.count ≡ t = λ t e. sym c.is_missing.ensures ∙ e in
+    let negative-at : (t : Bool) → c.offers_negative.result ≡ t → offers_negative change-at code_at ≡ t = λ t e.
         rw (to_z-of_z w32 c.args.code s.fits.code) at (sym c.offers_negative.ensures ∙ e) in
-    let enters-at : {t : Bool} → c.enters_bytes.result ≡ t → enters_bytes change-at outline-at.count (max (region_end outline-at.layout.kind outline-at.layout.image (length file-at)) first_place) ≡ t = λ e. rw region-at at (sym c.enters_bytes.ensures ∙ e) in
+    let enters-at : (t : Bool) → c.enters_bytes.result ≡ t → enters_bytes change-at outline-at.count (max (region_end outline-at.layout.kind outline-at.layout.image (length file-at)) first_place) ≡ t = λ t e. rw region-at at (sym c.enters_bytes.ensures ∙ e) in
     let past-at : Past file-at change-at code_at =
         past file-at room_at change-at code_at payload-at outline-at c.requires
-        (missing_at c.if-is_missing.false)
-        (negative-at c.if-offers_negative.false)
-        (enters-at c.if-enters_bytes.false) in
+        (missing_at _ c.if-is_missing.false)
+        (negative-at _ c.if-offers_negative.false)
+        (enters-at _ c.if-enters_bytes.false) in
     let Numbers-at =
         Numbers file-at change-at payload-at c.greater-end.result
         c.slot_for-out.result.at c.slot_for-out.result.old c.new_size-new.result in

@@ -72,8 +72,8 @@ returns-then-code-lt0 c =
     let code_same : to_z w32 (of_z w32 code) ≡ code = to_z-of_z w32 code c.ranges.code in
     let rule-is : c.size_rule-sized.result ≡ size_rule size n = rw size_same at c.size_rule-sized.ensures in
     let held : size_rule size n ≡ true = sym rule-is ∙ c.if-not-sized.false in
-    let coded : {t : Bool} → lt_z (to_z w32 (of_z w32 code)) (pos 0) ≡ t → lt_z code (pos 0) ≡ t = λ e. rw code_same at e in
-    rw (found_code self.count self.at n size code (omega arith) (omega arith) held (coded c.if-code-lt0.true))
+    let coded : (t : Bool) → lt_z (to_z w32 (of_z w32 code)) (pos 0) ≡ t → lt_z code (pos 0) ≡ t = λ t e. rw code_same at e in
+    rw (found_code self.count self.at n size code (omega arith) (omega arith) held (coded _ c.if-code-lt0.true))
     c.halt-then-code-lt0.ensures
 
 pub overflow_cast-past : goal.overflow_cast-past
@@ -108,8 +108,8 @@ returns c =
     let code_same : to_z w32 (of_z w32 code) ≡ code = to_z-of_z w32 code c.ranges.code in
     let rule-is : c.size_rule-sized.result ≡ size_rule size n = rw size_same at c.size_rule-sized.ensures in
     let held : size_rule size n ≡ true = sym rule-is ∙ c.if-not-sized.false in
-    let coded : {t : Bool} → lt_z (to_z w32 (of_z w32 code)) (pos 0) ≡ t → lt_z code (pos 0) ≡ t = λ e. rw code_same at e in
-    rw (found_extension self.count self.at n size code (omega arith) (omega arith) held (coded c.if-code-lt0.false))
+    let coded : (t : Bool) → lt_z (to_z w32 (of_z w32 code)) (pos 0) ≡ t → lt_z code (pos 0) ≡ t = λ t e. rw code_same at e in
+    rw (found_extension self.count self.at n size code (omega arith) (omega arith) held (coded _ c.if-code-lt0.false))
     (λ i.
     Extension (span self.at (size_same i) (code_same i))
     (record { order = self.order; end = self.end; at = self.at + nat_abs (size_same i); count = self.count + 1 }))
