@@ -4,9 +4,8 @@ use Rattle.answers.proofs.edit_reply.Goals as goal
 
 pub returns-in-Done : goal.returns-in-Done
 returns-in-Done c =
-    let file = c.edited-1.given in
-    rw file.1
-    (λ i. record { refusal = 0; place = 0; length = file.0.0.length; aligned = c.is_aligned.ensures i })
+    rw c.in-Done.is
+    (λ i. record { refusal = 0; place = 0; length = c.in-Done.file.length; aligned = c.is_aligned.ensures i })
 
 pub returns-in-Denied : goal.returns-in-Denied
 returns-in-Denied c = rw c.in-Denied.is c.refused_reply.ensures

@@ -12,12 +12,10 @@ locate_shown-requires c = sym c.outline_of-outlined.ensures ∙ c.in-Shown.is
 pub returns-in-Hidden : goal.returns-in-Hidden
 unfolding located_of
 returns-in-Hidden c =
-    let t = c.outlined-1.given in
-    hidden_answer c.args.file.now 0 _ Unlocated t.0.0 (sym c.outline_of-outlined.ensures ∙ t.1)
+    hidden_answer c.args.file.now 0 _ Unlocated c.in-Hidden.r (sym c.outline_of-outlined.ensures ∙ c.in-Hidden.is)
 
 pub returns-in-Shown : goal.returns-in-Shown
 unfolding located_of
 returns-in-Shown c =
-    let t = c.outlined-in-Shown-1.given in
     c.locate_shown.ensures
-    ∙ shown_answer c.args.file.now 0 _ Unlocated t.0.0 (sym c.outline_of-outlined.ensures ∙ t.1)
+    ∙ shown_answer c.args.file.now 0 _ Unlocated c.in-Shown.outline (sym c.outline_of-outlined.ensures ∙ c.in-Shown.is)

@@ -24,17 +24,15 @@ part-requires c =
     let asked = c.args.i1 ∷ c.args.i2 ∷ c.args.i3 ∷ c.args.i4 ∷ c.args.i5 ∷ c.args.i6 ∷ c.args.i7 ∷ [] in
     let located-is : located_of c.args.file.now c.args.image.now asked ≡ c.locate_shown-located.result =
         sym (c.locate_shown-located.ensures ∙ shown_answer c.args.file.now 0 _ Unlocated c.in-Shown.outline shown-is) in
-    let t = c.located-1.given in
     rw (shown_kind c.args.file.now c.in-Shown.outline shown-is)
-    (voxel_in_file c.args.file.now c.args.image.now asked t.0.0 (located-is ∙ t.1))
+    (voxel_in_file c.args.file.now c.args.image.now asked c.in-At.extent (located-is ∙ c.in-At.is))
 
 pub returns-in-Hidden : goal.returns-in-Hidden
 unfolding located_of
 returns-in-Hidden c =
     let asked = c.args.i1 ∷ c.args.i2 ∷ c.args.i3 ∷ c.args.i4 ∷ c.args.i5 ∷ c.args.i6 ∷ c.args.i7 ∷ [] in
-    let t = c.enum_told-1.given in
-    let hidden = hidden_answer c.args.file.now 0 _ Unlocated t.0.0 (sym c.outline_of-outlined.ensures ∙ t.1) in
-    sym (refused_empty c.args.file.now c.args.image.now asked t.0.0 (sym hidden))
+    let hidden = hidden_answer c.args.file.now 0 _ Unlocated c.in-Hidden.field-0 (sym c.outline_of-outlined.ensures ∙ c.in-Hidden.is) in
+    sym (refused_empty c.args.file.now c.args.image.now asked c.in-Hidden.field-0 (sym hidden))
 
 pub returns-in-Unlocated : goal.returns-in-Unlocated
 unfolding located_of
@@ -43,8 +41,7 @@ returns-in-Unlocated c =
     let asked = c.args.i1 ∷ c.args.i2 ∷ c.args.i3 ∷ c.args.i4 ∷ c.args.i5 ∷ c.args.i6 ∷ c.args.i7 ∷ [] in
     let located-is : located_of c.args.file.now c.args.image.now asked ≡ c.locate_shown-located.result =
         sym (c.locate_shown-located.ensures ∙ shown_answer c.args.file.now 0 _ Unlocated c.in-Shown.outline shown-is) in
-    let t = c.enum_told-in-Unlocated-1.given in
-    sym (refused_empty c.args.file.now c.args.image.now asked t.0.0 (located-is ∙ t.1))
+    sym (refused_empty c.args.file.now c.args.image.now asked c.in-Unlocated.field-0 (located-is ∙ c.in-Unlocated.is))
 
 pub returns-in-At : goal.returns-in-At
 unfolding located_of
@@ -53,6 +50,5 @@ returns-in-At c =
     let asked = c.args.i1 ∷ c.args.i2 ∷ c.args.i3 ∷ c.args.i4 ∷ c.args.i5 ∷ c.args.i6 ∷ c.args.i7 ∷ [] in
     let located-is : located_of c.args.file.now c.args.image.now asked ≡ c.locate_shown-located.result =
         sym (c.locate_shown-located.ensures ∙ shown_answer c.args.file.now 0 _ Unlocated c.in-Shown.outline shown-is) in
-    let t = c.located-1.given in
     (rw (shown_kind c.args.file.now c.in-Shown.outline shown-is) at c.part.ensures)
-    ∙ sym (voxel_bytes_are c.args.file.now c.args.image.now asked t.0.0 (located-is ∙ t.1))
+    ∙ sym (voxel_bytes_are c.args.file.now c.args.image.now asked c.in-At.extent (located-is ∙ c.in-At.is))

@@ -10,6 +10,5 @@ swap_shown-requires c =
 
 pub returns-in-Hidden : goal.returns-in-Hidden
 returns-in-Hidden c =
-    let hidden = c.outlined-1.given in
     let a = c.args in
-    swaps_hidden a.file.now a.image.now hidden.0.0 (sym c.outline_of-outlined.ensures ∙ hidden.1)
+    swaps_hidden a.file.now a.image.now c.in-Hidden.r (sym c.outline_of-outlined.ensures ∙ c.in-Hidden.is)

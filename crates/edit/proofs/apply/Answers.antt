@@ -39,9 +39,8 @@ returns-in-Stop c =
     let planned-at : c.plan_edit-planned.result ≡ planned-of =
         rw (to_z-of_z w32 c.args.code s.fits.code, sub-zero) at c.plan_edit-planned.ensures in
     let a = c.args in
-    let t = c.planned-1.given in
-    let e = outcome_stop a.buf.now a.len a.change a.code a.payload.now c.if-buf-len.false t.0.0
-    (sym planned-at ∙ t.1) in
+    let e = outcome_stop a.buf.now a.len a.change a.code a.payload.now c.if-buf-len.false c.in-Stop.r
+    (sym planned-at ∙ c.in-Stop.is) in
     (ap edit_answer (sym e), ap (buffer_after a.buf.now a.len) (sym e))
 
 pub returns-in-Go : goal.returns-in-Go
@@ -52,12 +51,11 @@ returns-in-Go c =
     let planned-at : c.plan_edit-planned.result ≡ planned-of =
         rw (to_z-of_z w32 c.args.code s.fits.code, sub-zero) at c.plan_edit-planned.ensures in
     let a = c.args in
-    let t = c.planned-in-Go-1.given in
-    let e = outcome_go a.buf.now a.len a.change a.code a.payload.now c.if-buf-len.false t.0.0
-    (sym planned-at ∙ t.1) in
+    let e = outcome_go a.buf.now a.len a.change a.code a.payload.now c.if-buf-len.false c.in-Go.x
+    (sym planned-at ∙ c.in-Go.is) in
     let r = rw (to_z-of_z w32 a.code s.fits.code) at c.splice-length.ensures in
     let f = take a.len a.buf.now in
-    let go = planned f (length a.buf.now) a.change a.code a.payload.now t.0.0 (sym planned-at ∙ t.1) in
+    let go = planned f (length a.buf.now) a.change a.code a.payload.now c.in-Go.x (sym planned-at ∙ c.in-Go.is) in
     let x =
     sym (ap (λ (y : Plan). y.aligned) go.1)
     ∙ plan_aligned f (length a.buf.now) a.change a.code a.payload.now s.fits.code go.0 in

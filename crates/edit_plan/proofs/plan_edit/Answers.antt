@@ -18,8 +18,7 @@ pub returns-in-Hidden : goal.returns-in-Hidden
 returns-in-Hidden c =
     let outlined-at : (x : Outlined) → c.outline_of-outlined.result ≡ x → outline_of (named_by c.args.change) c.args.file.now ≡ x = λ x e. rw c.number_of.ensures at (sym c.outline_of-outlined.ensures ∙ e) in
     let a = c.args in
-    let v = c.outlined-1.given in
-    stops_unread a.file.now a.room a.change a.code a.payload.now v.0.0 (outlined-at _ v.1)
+    stops_unread a.file.now a.room a.change a.code a.payload.now c.in-Hidden.r (outlined-at _ c.in-Hidden.is)
 
 pub returns-in-Shown : goal.returns-in-Shown
 returns-in-Shown c =

@@ -19,8 +19,7 @@ returns-in-Failed c =
     let a = c.args in
     let s = a.file.now in
     let b = began s a.len a.order a.kind c.requires.1 in
-    let t = c.judged-1.given in
-    checks_fields s a.len a.order a.kind b t.0.0 (sym judged-is ∙ t.1)
+    checks_fields s a.len a.order a.kind b c.in-Failed.r (sym judged-is ∙ c.in-Failed.is)
 
 pub returns-in-Refused : goal.returns-in-Refused
 returns-in-Refused c =
@@ -29,9 +28,7 @@ returns-in-Refused c =
     let a = c.args in
     let s = a.file.now in
     let b = began s a.len a.order a.kind c.requires.1 in
-    let t = c.judged-in-Passed-1.given in
-    let u = c.end-1.given in
-    checks_end s a.len a.order a.kind b t.0.0 t.0.1.0 (sym judged-is ∙ t.1) u.0.0 (sym c.check_end-end.ensures ∙ u.1)
+    checks_end s a.len a.order a.kind b c.in-Passed.image c.in-Passed.aligned (sym judged-is ∙ c.in-Passed.is) c.in-Refused.r (sym c.check_end-end.ensures ∙ c.in-Refused.is)
 
 pub returns-in-Accepted : goal.returns-in-Accepted
 returns-in-Accepted c =
@@ -40,5 +37,4 @@ returns-in-Accepted c =
     let a = c.args in
     let s = a.file.now in
     let b = began s a.len a.order a.kind c.requires.1 in
-    let t = c.judged-in-Passed-1.given in
-    checks_all s a.len a.order a.kind b t.0.0 t.0.1.0 (sym judged-is ∙ t.1) (sym c.check_end-end.ensures ∙ c.in-Accepted.is)
+    checks_all s a.len a.order a.kind b c.in-Passed.image c.in-Passed.aligned (sym judged-is ∙ c.in-Passed.is) (sym c.check_end-end.ensures ∙ c.in-Accepted.is)

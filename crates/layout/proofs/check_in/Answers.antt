@@ -11,5 +11,4 @@ check_fields-requires c =
 pub returns-in-Unread : goal.returns-in-Unread
 returns-in-Unread c =
     let a = c.args in
-    let t = c.start-1.given in
-    checks_start a.file.now a.len t.0.0 (sym c.start_in-start.ensures ∙ t.1)
+    checks_start a.file.now a.len c.in-Unread.r (sym c.start_in-start.ensures ∙ c.in-Unread.is)

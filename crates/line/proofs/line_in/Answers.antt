@@ -9,9 +9,8 @@ use Rattle.line.proofs.line_in.Goals as goal
 pub returns-in-Refused : goal.returns-in-Refused
 returns-in-Refused c =
     let a = c.args in
-    let t = c.offset-1.given in
-    rw (← c.misplaced.ensures) at (record_refused a.header a.file.now a.image.now a.axis a.index a.out.now t.0.0
-    (sym c.decode-offset.ensures ∙ t.1))
+    rw (← c.misplaced.ensures) at (record_refused a.header a.file.now a.image.now a.axis a.index a.out.now c.in-Refused.r
+    (sym c.decode-offset.ensures ∙ c.in-Refused.is))
 
 pub returns-in_default : goal.returns-in_default
 returns-in_default c =

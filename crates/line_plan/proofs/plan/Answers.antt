@@ -12,8 +12,7 @@ along-requires c =
 pub returns-in-Refused : goal.returns-in-Refused
 returns-in-Refused c =
     let a = c.args in
-    let t = c.judged-1.given in
-    sym (planned_then a.v a.file a.image a.axis a.index a.out _ (sym c.judge-judged.ensures ∙ t.1))
+    sym (planned_then a.v a.file a.image a.axis a.index a.out _ (sym c.judge-judged.ensures ∙ c.in-Refused.is))
 
 pub returns-in-Accepted : goal.returns-in-Accepted
 returns-in-Accepted c =

@@ -16,8 +16,7 @@ returns-then-whole c = rw c.if-whole.true c.outline_checked.ensures
 pub returns-in-Breaks : goal.returns-in-Breaks
 returns-in-Breaks c =
     let a = c.args in
-    let t = c.checked-1.given in
-    outlines_unread a.file.now a.len a.whole a.wanted t.0.0 c.requires.1 (sym c.check_in-checked.ensures ∙ t.1)
+    outlines_unread a.file.now a.len a.whole a.wanted c.in-Breaks.r c.requires.1 (sym c.check_in-checked.ensures ∙ c.in-Breaks.is)
 
 pub returns-else-whole : goal.returns-else-whole
 returns-else-whole c =

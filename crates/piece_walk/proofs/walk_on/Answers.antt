@@ -13,10 +13,8 @@ use Rattle.piece_walk.specs.declared.Walk.{Walk}
 use Rattle.piece_walk.specs.Window.{window}
 use Rattle.piece_walk.specs.Walking.{step_by, walker_of, passing, walked_on}
 use Rattle.piece_walk.proofs.Passing.{step_room, passing_on, passing_end, passing_halt}
+use Rattle.piece_walk.proofs.walk_on.Invariants.{walk}
 use Rattle.piece_walk.proofs.walk_on.Goals as goal
-
-abbrev walk : ℕ → ℕ → List ℕ → List Mark → Walk
-walk at count coming marks = record { at = at; count = count; coming = coming; marks = marks }
 
 pub loop-x-init : goal.loop-x-init
 loop-x-init c = refl

@@ -15,6 +15,10 @@ use Rattle.piece_walk.specs.Walking.{step_by, walker_of, passing, walked_on}
 use Rattle.piece_walk.proofs.Passing.{step_room, passing_on, passing_end, passing_halt}
 use Rattle.piece_walk.proofs.walk_on.Given as goal
 
+-- the walk so far, by its parts
+abbrev pub walk : ℕ → ℕ → List ℕ → List Mark → Walk
+walk at count coming marks = record { at = at; count = count; coming = coming; marks = marks }
+
 abbrev pub invariant-loop-x : goal.invariant-loop-x
 invariant-loop-x l =
     passing l.order l.end l.old l.taken l.piece (extension_limit - l.initial.count) (walk l.initial.at l.initial.count (window l.initial.at l.end l.taken l.old l.piece) l.initial.marks)

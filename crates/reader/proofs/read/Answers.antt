@@ -9,5 +9,4 @@ read_list-requires c = sym c.check-checked.ensures ∙ c.in-Fits.is
 
 pub returns-in-Breaks : goal.returns-in-Breaks
 returns-in-Breaks c =
-    let b = c.checked-1.given in
-    c.refused.ensures ∙ reads_broken c.args.file.now b.0.0 (sym c.check-checked.ensures ∙ b.1)
+    c.refused.ensures ∙ reads_broken c.args.file.now c.in-Breaks.r (sym c.check-checked.ensures ∙ c.in-Breaks.is)

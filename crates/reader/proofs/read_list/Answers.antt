@@ -13,9 +13,8 @@ accepted-requires c =
 
 pub returns-in-Refused : goal.returns-in-Refused
 returns-in-Refused c =
-    let v = c.verdict-1.given in
     c.refused.ensures
-    ∙ reads_refused c.args.file.now c.args.layout c.requires c.list_in-listing.result c.list_in-listing.ensures v.0.0 v.1
+    ∙ reads_refused c.args.file.now c.args.layout c.requires c.list_in-listing.result c.list_in-listing.ensures c.in-Refused.r c.in-Refused.is
 
 pub returns-in-Accepted : goal.returns-in-Accepted
 returns-in-Accepted c =

@@ -38,5 +38,4 @@ returns-in-Refused c =
         let a = c.args in
         bits_agree a.format a.shape.bitpix (known_sound a.shape.datatype a.format c.requires.1) bitpix-fits e in
     let a = c.args in
-    let o = c.offset-1.given in
-    judged_refused a.shape a.len a.format formed (agree c.if-shape-format.false) o.0.0 (sym c.decode-offset.ensures ∙ o.1)
+    judged_refused a.shape a.len a.format formed (agree c.if-shape-format.false) c.in-Refused.r (sym c.decode-offset.ensures ∙ c.in-Refused.is)

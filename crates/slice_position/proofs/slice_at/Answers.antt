@@ -10,21 +10,18 @@ use Rattle.slice_position.proofs.slice_at.Goals as goal
 
 pub acquisition_in-requires : goal.acquisition_in-requires
 acquisition_in-requires c =
-    let t = c.outlined-in-Shown-1.given in
-    shown_long c.args.file.now 0 t.0.0 (sym c.outline_of-outlined.ensures ∙ t.1)
+    shown_long c.args.file.now 0 c.in-Shown.outline (sym c.outline_of-outlined.ensures ∙ c.in-Shown.is)
 
 pub returns-in-Hidden : goal.returns-in-Hidden
 unfolding slice_of
 returns-in-Hidden c =
-    let t = c.outlined-1.given in
-    hidden_answer c.args.file.now 0 _ Refused t.0.0 (sym c.outline_of-outlined.ensures ∙ t.1)
+    hidden_answer c.args.file.now 0 _ Refused c.in-Hidden.r (sym c.outline_of-outlined.ensures ∙ c.in-Hidden.is)
 
 pub returns-in-Shown : goal.returns-in-Shown
 unfolding slice_of
 returns-in-Shown c =
     let a = c.args in
-    let t = c.outlined-in-Shown-1.given in
-    let shown = sym c.outline_of-outlined.ensures ∙ t.1 in
+    let shown = sym c.outline_of-outlined.ensures ∙ c.in-Shown.is in
     c.slice_by.ensures
-    ∙ (λ n. slice_by ((c.acquisition_in.ensures ∙ shown_acquisition a.file.now t.0.0 shown) n) a.s)
-    ∙ shown_answer a.file.now 0 _ Refused t.0.0 shown
+    ∙ (λ n. slice_by ((c.acquisition_in.ensures ∙ shown_acquisition a.file.now c.in-Shown.outline shown) n) a.s)
+    ∙ shown_answer a.file.now 0 _ Refused c.in-Shown.outline shown

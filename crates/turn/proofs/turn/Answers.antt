@@ -10,7 +10,6 @@ turn_shown-requires c =
 
 pub returns-in-Hidden : goal.returns-in-Hidden
 returns-in-Hidden c =
-    let hidden = c.outlined-1.given in
     let a = c.args in
-    let e = sym c.outline_of-outlined.ensures ∙ hidden.1 in
-    turns_hidden a.file.now a.image.now a.t a.out.now a.out_image.now hidden.0.0 e
+    let e = sym c.outline_of-outlined.ensures ∙ c.in-Hidden.is in
+    turns_hidden a.file.now a.image.now a.t a.out.now a.out_image.now c.in-Hidden.r e

@@ -9,7 +9,6 @@ shown_file-requires c = sym c.outline_of-outlined.ensures ∙ c.in-Shown.is
 
 pub returns-in-Hidden : goal.returns-in-Hidden
 returns-in-Hidden c =
-    let hidden = c.outlined-1.given in
     let a = c.args in
     c.refused_file.ensures
-    ∙ hidden_file a.file.now 0 hidden.0.0 (sym c.outline_of-outlined.ensures ∙ hidden.1)
+    ∙ hidden_file a.file.now 0 c.in-Hidden.r (sym c.outline_of-outlined.ensures ∙ c.in-Hidden.is)

@@ -7,8 +7,7 @@ use Rattle.voxel_run.proofs.voxel_run_by_record.Goals as goal
 pub returns-in-Refused : goal.returns-in-Refused
 returns-in-Refused c =
     let a = c.args in
-    let e = c.enum_told-1.given in
-    sym (farthest_refused a.file.now a.count e.0.0 (rw c.read-reading.ensures at e.1))
+    sym (farthest_refused a.file.now a.count c.in-Refused.field-0 (rw c.read-reading.ensures at c.in-Refused.is))
 
 pub returns-in-Accepted : goal.returns-in-Accepted
 returns-in-Accepted c =

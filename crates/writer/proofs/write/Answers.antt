@@ -43,8 +43,7 @@ returns-then-buf-lt348 c =
 pub returns-in-Failed : goal.returns-in-Failed
 returns-in-Failed c =
     let a = c.args in
-    let t = c.judged-1.given in
-    writes_failed a.header a.buf.now t.0.0 (sym c.judge_record-judged.ensures ∙ t.1)
+    writes_failed a.header a.buf.now c.in-Failed.r (sym c.judge_record-judged.ensures ∙ c.in-Failed.is)
 
 pub returns-else-buf-lt348 : goal.returns-else-buf-lt348
 returns-else-buf-lt348 c =
