@@ -2,7 +2,6 @@
 -- decoder answers, and what it says of a whole offset is handed on.
 use mathlib.Core.Path.{◌≡◌, sym, ◌∙◌}
 use mathlib.Core.Bool.{true}
-use mathlib.Core.Logic.{⊎_elim}
 use native.Mathlib.Omega.{arith}
 use mir.Syntax.{w16}
 use mir.Val.{SFits, of_z}
@@ -28,7 +27,7 @@ judge_image-requires c =
     let agree : of_z w16 c.args.shape.bitpix ≡ of_z w16 c.args.format.bits → is_number c.args.shape.bitpix (natural_of c.args.format.bits) ≡ true = λ e.
         let a = c.args in
         bits_agree a.format a.shape.bitpix (known_sound a.shape.datatype a.format c.requires.1) bitpix-fits e in
-    (c.requires.0, c.requires.1, agree c.if-shape-format.false, sym c.decode-offset.ensures, λ r e. ⊎_elim (λ k. omega arith) (λ k. omega arith) (rw e at c.in_default.in_default-own.keys2))
+    (c.requires.0, c.requires.1, agree c.if-shape-format.false, sym c.decode-offset.ensures, c.in_default.not-Refused)
 
 pub returns-in-Refused : goal.returns-in-Refused
 returns-in-Refused c =
