@@ -2,12 +2,13 @@
 // (01-scope.md, "The writer takes any record"). Of a refused file, or one longer than 65536 bytes, it writes nothing.
 #![tactic(auto)]
 
-use libc::{STDIN_FILENO, STDOUT_FILENO};
 use refusal::Verdict;
+use std::io;
+use std::io::Read;
 
 const LONGEST: usize = 65536;
 
-fn copy(file: &[u8]) {
+fn copy(rt: &impl Print, file: &[u8]) -> io::Result<()> {
     let reading = reader::read(file);
     let verdict = reading.verdict;
     match verdict {
@@ -15,17 +16,20 @@ fn copy(file: &[u8]) {
             let header = reading.header;
             let mut front = [0u8; 348];
             writer::write(header, &mut front);
-            io::write_all(STDOUT_FILENO, &front);
+            rt.write_all(&front)
         }
-        Verdict::Refused(_) => {}
+        Verdict::Refused(_) => Ok(()),
     }
 }
 
-fn main() {
+fn main(rt: HostRuntime) -> io::Result<()> {
+    let mut input = Vec::new(rt.alloc());
     // One byte more than is taken tells that the input is longer.
-    let mut buffer = [0u8; 65537];
-    let n = io::read_full(STDIN_FILENO, &mut buffer);
-    if n <= LONGEST {
-        copy(&buffer[..n]);
+    rt.reader()
+        .take(LONGEST as u64 + 1)
+        .read_to_end(&mut input)?;
+    if LONGEST < input.len() {
+        return Ok(());
     }
+    copy(&rt, &input)
 }

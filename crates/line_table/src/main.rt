@@ -7,108 +7,142 @@
 //       + struct.pack("<24h", *range(24)))' > ../crates/line_table/stdin
 #![tactic(auto)]
 
-use libc::{STDIN_FILENO, STDOUT_FILENO};
 use line_copy::{Engine, Lined};
+use std::io;
+use std::io::Read;
 
-fn say(text: &[u8]) {
-    io::write_all(STDOUT_FILENO, text);
+fn say(rt: &impl Print, text: &[u8]) -> io::Result<()> {
+    rt.write_all(text)
 }
 
-fn say_number(n: u64) {
-    say(b" ");
-    io::print_decimal(STDOUT_FILENO, n);
+fn say_number(rt: &impl Print, n: u64) -> io::Result<()> {
+    print!(rt; " {n}")
 }
 
-fn say_byte(b: u8) {
-    say_number(b as u64);
+fn say_byte(rt: &impl Print, b: u8) -> io::Result<()> {
+    say_number(rt, b as u64)
 }
 
-fn print_bytes(part: &[u8]) {
-    let mut k = 0;
-    while k < part.len() {
-        say_byte(part[k]);
-        k += 1;
+fn print_bytes(rt: &impl Print, part: &[u8]) -> io::Result<()> {
+    for b in part {
+        say_byte(rt, *b)?;
     }
-    say(b"\n");
+    say(rt, b"\n")
 }
 
-fn print_lined(name: &[u8], lined: Lined, buffer: &[u8]) {
-    say(name);
+fn print_lined(rt: &impl Print, name: &[u8], lined: Lined, buffer: &[u8]) -> io::Result<()> {
+    say(rt, name)?;
     match lined {
         Lined::Copied(n) => {
-            say(b" copied");
-            say_number(n as u64);
+            say(rt, b" copied")?;
+            say_number(rt, n as u64)?;
         }
         Lined::Refused(r) => {
-            say(b" refused");
-            say_number(r.number);
-            say(b" at");
-            say_number(r.place as u64);
+            say(rt, b" refused")?;
+            say_number(rt, r.number)?;
+            say(rt, b" at")?;
+            say_number(rt, r.place as u64)?;
         }
     }
-    say(b":");
-    print_bytes(buffer);
+    say(rt, b":")?;
+    print_bytes(rt, buffer)
 }
 
-fn by_steps(file: &[u8], axis: u64, i: u64, j: u64, k: u64, t: u64, out: &mut [u8]) {
+fn by_steps(
+    rt: &impl Print,
+    file: &[u8],
+    axis: u64,
+    i: u64,
+    j: u64,
+    k: u64,
+    t: u64,
+    out: &mut [u8],
+) -> io::Result<()> {
     let none = [0u8; 0];
     let lined = line::line(file, &none, axis, i, j, k, t, 0, 0, 0, out);
-    print_lined(b"by steps", lined, out);
+    print_lined(rt, b"by steps", lined, out)
 }
 
-fn by_voxel(file: &[u8], axis: u64, i: u64, j: u64, k: u64, t: u64, out: &mut [u8]) {
+fn by_voxel(
+    rt: &impl Print,
+    file: &[u8],
+    axis: u64,
+    i: u64,
+    j: u64,
+    k: u64,
+    t: u64,
+    out: &mut [u8],
+) -> io::Result<()> {
     let none = [0u8; 0];
     let lined = line::line_by_voxel(file, &none, axis, i, j, k, t, 0, 0, 0, out);
-    print_lined(b"by voxel", lined, out);
+    print_lined(rt, b"by voxel", lined, out)
 }
 
-fn by_record(file: &[u8], axis: u64, i: u64, j: u64, k: u64, t: u64, out: &mut [u8]) {
+fn by_record(
+    rt: &impl Print,
+    file: &[u8],
+    axis: u64,
+    i: u64,
+    j: u64,
+    k: u64,
+    t: u64,
+    out: &mut [u8],
+) -> io::Result<()> {
     let none = [0u8; 0];
     let reading = reader::read(file);
     let header = reading.header;
     let index = [i, j, k, t, 0, 0, 0];
     let lined = line::line_in(header, file, &none, axis, index, out, Engine::Steps);
-    print_lined(b"by record", lined, out);
+    print_lined(rt, b"by record", lined, out)
 }
 
 // The line by each call, into a buffer of `room` bytes, of which there are at most 8.
-fn print_line(file: &[u8], room: usize, axis: u64, i: u64, j: u64, k: u64, t: u64) {
+fn print_line(
+    rt: &impl Print,
+    file: &[u8],
+    room: usize,
+    axis: u64,
+    i: u64,
+    j: u64,
+    k: u64,
+    t: u64,
+) -> io::Result<()> {
     if 8 < room {
-        return;
+        return Ok(());
     }
-    say(b"axis");
-    say_number(axis);
-    say(b" through");
-    say_number(i);
-    say_number(j);
-    say_number(k);
-    say_number(t);
-    say(b" into");
-    say_number(room as u64);
-    say(b"\n");
+    say(rt, b"axis")?;
+    say_number(rt, axis)?;
+    say(rt, b" through")?;
+    say_number(rt, i)?;
+    say_number(rt, j)?;
+    say_number(rt, k)?;
+    say_number(rt, t)?;
+    say(rt, b" into")?;
+    say_number(rt, room as u64)?;
+    say(rt, b"\n")?;
     let mut a = [238u8; 8];
-    by_steps(file, axis, i, j, k, t, &mut a[0..room]);
+    by_steps(rt, file, axis, i, j, k, t, &mut a[0..room])?;
     let mut b = [238u8; 8];
-    by_voxel(file, axis, i, j, k, t, &mut b[0..room]);
+    by_voxel(rt, file, axis, i, j, k, t, &mut b[0..room])?;
     let mut c = [238u8; 8];
-    by_record(file, axis, i, j, k, t, &mut c[0..room]);
+    by_record(rt, file, axis, i, j, k, t, &mut c[0..room])
 }
 
-fn main() {
+fn main(rt: HostRuntime) -> io::Result<()> {
+    let mut input = Vec::new(rt.alloc());
     // One byte more than the file has tells that the input is longer: it is then another file.
-    let mut buffer = [0u8; 401];
-    let n = io::read_full(STDIN_FILENO, &mut buffer);
-    let file = &buffer[..n];
-    print_line(file, 8, 1, 1, 1, 0, 1);
-    print_line(file, 8, 2, 1, 1, 0, 1);
-    print_line(file, 8, 3, 1, 1, 0, 1);
-    print_line(file, 8, 4, 1, 1, 0, 1);
-    print_line(file, 6, 1, 1, 1, 0, 1);
-    print_line(file, 5, 1, 1, 1, 0, 1);
-    print_line(file, 8, 0, 1, 1, 0, 1);
-    print_line(file, 8, 5, 1, 1, 0, 1);
-    print_line(file, 8, 18446744073709551615, 1, 1, 0, 1);
-    print_line(file, 8, 1, 3, 1, 0, 1);
-    print_line(file, 8, 1, 1, 2, 0, 1);
-    print_line(file, 0, 0, 1, 1, 0, 1);
+    rt.reader().take(401).read_to_end(&mut input)?;
+    let file = &input;
+    print_line(&rt, file, 8, 1, 1, 1, 0, 1)?;
+    print_line(&rt, file, 8, 2, 1, 1, 0, 1)?;
+    print_line(&rt, file, 8, 3, 1, 1, 0, 1)?;
+    print_line(&rt, file, 8, 4, 1, 1, 0, 1)?;
+    print_line(&rt, file, 6, 1, 1, 1, 0, 1)?;
+    print_line(&rt, file, 5, 1, 1, 1, 0, 1)?;
+    print_line(&rt, file, 8, 0, 1, 1, 0, 1)?;
+    print_line(&rt, file, 8, 5, 1, 1, 0, 1)?;
+    print_line(&rt, file, 8, 18446744073709551615, 1, 1, 0, 1)?;
+    print_line(&rt, file, 8, 1, 3, 1, 0, 1)?;
+    print_line(&rt, file, 8, 1, 1, 2, 0, 1)?;
+    print_line(&rt, file, 0, 0, 1, 1, 0, 1)
 }

@@ -2,18 +2,20 @@
 // says; here it is only printed.
 #![tactic(auto)]
 
-use libc::STDIN_FILENO;
+use std::io;
+use std::io::Read;
 
 // The longest file that is listed.
 const LONGEST: usize = 65536;
 
-fn main() {
+fn main(rt: HostRuntime) -> io::Result<()> {
+    let mut input = Vec::new(rt.alloc());
     // One byte more than is listed tells that the input is longer.
-    let mut buffer = [0u8; 65537];
-    let n = io::read_full(STDIN_FILENO, &mut buffer);
-    if LONGEST < n {
-        listing_print::put(b"too long\n");
-        return;
+    rt.reader()
+        .take(LONGEST as u64 + 1)
+        .read_to_end(&mut input)?;
+    if LONGEST < input.len() {
+        return listing_print::put(&rt, b"too long\n");
     }
-    listing_print::put_reading(reader::read(&buffer[..n]));
+    listing_print::put_reading(&rt, reader::read(&input))
 }

@@ -2,24 +2,22 @@
 // none is kept but what the piece reader keeps (02-change-requests.md, P1).
 #![tactic(auto)]
 
-use libc::STDIN_FILENO;
 use pieces::Pieces;
 use refusal::Verdict;
+use std::io;
+use std::io::Read;
 
 // A read that fails is not the end of the file: nothing is listed then.
-fn main() {
+fn main(rt: HostRuntime) -> io::Result<()> {
     let mut pieces = Pieces::start();
     let mut buffer = [0u8; 256];
+    let mut input = rt.reader();
     loop {
-        let got = libc::read(STDIN_FILENO, &mut buffer);
-        if got < 0 {
-            listing_print::put(b"read failed\n");
-            return;
-        }
-        let n = io::count(got, &buffer);
+        let Ok(n) = input.read(&mut buffer) else {
+            return listing_print::put(&rt, b"read failed\n");
+        };
         if n == 0 {
-            listing_print::put_reading(piece_reader::answer(pieces));
-            return;
+            return listing_print::put_reading(&rt, piece_reader::answer(pieces));
         }
         let taken = pieces.take(&buffer[..n]);
         let verdict = taken.verdict;
@@ -28,8 +26,7 @@ fn main() {
                 pieces = taken.pieces;
             }
             Verdict::Refused(refusal) => {
-                listing_print::put_refusal(refusal);
-                return;
+                return listing_print::put_refusal(&rt, refusal);
             }
         }
     }

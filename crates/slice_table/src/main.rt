@@ -8,28 +8,28 @@ ghost use Rattle.std.specs.Prelude.{◌≡◌, true, ◌<◌};
 ghost use Rattle.std.specs.Float.Ieee.Scale.{finite};
 
 use field::Order;
-use libc::STDOUT_FILENO;
 use position::Positioned;
 use slice_rank::Ranked;
+use std::io;
 use timing::Slice;
 
-fn say(text: &[u8]) {
-    io::write_all(STDOUT_FILENO, text);
+fn say(rt: &impl Print, text: &[u8]) -> io::Result<()> {
+    rt.write_all(text)
 }
 
-fn say_number(n: u64) {
-    io::print_decimal(STDOUT_FILENO, n);
+fn say_number(rt: &impl Print, n: u64) -> io::Result<()> {
+    print!(rt; "{n}")
 }
 
-fn say_bits(bits: u32) {
-    io::print_hex(STDOUT_FILENO, bits as u64, 8);
+fn say_bits(rt: &impl Print, bits: u32) -> io::Result<()> {
+    print!(rt; "{bits:08x}")
 }
 
 // A number by its bit pattern.
-fn say_float(x: f32)
+fn say_float(rt: &impl Print, x: f32) -> io::Result<()>
     requires { finite x ≡ true }
 {
-    say_bits(f32::to_bits(x));
+    say_bits(rt, f32::to_bits(x))
 }
 
 // A pair's header file with three axes, a byte a voxel.
@@ -63,145 +63,140 @@ fn put_row(file: &mut [u8], at: usize, a: u32, b: u32, c: u32, d: u32)
     store::put_u32(file, at + 12, Order::Little, d);
 }
 
-fn print_refusal(number: u64, place: usize) {
-    say(b" refused ");
-    say_number(number);
-    say(b" at ");
-    say_number(place as u64);
+fn print_refusal(rt: &impl Print, number: u64, place: usize) -> io::Result<()> {
+    say(rt, b" refused ")?;
+    say_number(rt, number)?;
+    say(rt, b" at ")?;
+    say_number(rt, place as u64)
 }
 
-fn print_slice(file: &[u8], s: u64) {
-    say(b"slice ");
-    say_number(s);
+fn print_slice(rt: &impl Print, file: &[u8], s: u64) -> io::Result<()> {
+    say(rt, b"slice ")?;
+    say_number(rt, s)?;
     let answer = slice_position::slice_at(file, s);
     match answer {
-        Slice::Refused(r) => print_refusal(r.number, r.place),
-        Slice::Unstated => say(b" unstated"),
-        Slice::Padding => say(b" padding"),
+        Slice::Refused(r) => print_refusal(rt, r.number, r.place)?,
+        Slice::Unstated => say(rt, b" unstated")?,
+        Slice::Padding => say(rt, b" padding")?,
         Slice::Timed(rank, time) => {
-            say(b" rank ");
-            say_number(rank as u64);
-            say(b" time ");
-            say_float(time);
+            say(rt, b" rank ")?;
+            say_number(rt, rank as u64)?;
+            say(rt, b" time ")?;
+            say_float(rt, time)?;
         }
     }
-    say(b"\n");
+    say(rt, b"\n")
 }
 
 // The answers for all seven slices, and for the first index outside the axis.
-fn print_slices(file: &[u8]) {
-    let mut s = 0;
-    while s < 8 {
-        print_slice(file, s);
-        s += 1;
+fn print_slices(rt: &impl Print, file: &[u8]) -> io::Result<()> {
+    for s in 0..8 {
+        print_slice(rt, file, s)?;
     }
+    Ok(())
 }
 
-fn print_ranked(file: &[u8], rank: u64) {
-    say(b"rank ");
-    say_number(rank);
+fn print_ranked(rt: &impl Print, file: &[u8], rank: u64) -> io::Result<()> {
+    say(rt, b"rank ")?;
+    say_number(rt, rank)?;
     let answer = slice_position::slice_of_rank(file, rank);
     match answer {
-        Ranked::Refused(r) => print_refusal(r.number, r.place),
-        Ranked::Unstated => say(b" unstated"),
+        Ranked::Refused(r) => print_refusal(rt, r.number, r.place)?,
+        Ranked::Unstated => say(rt, b" unstated")?,
         Ranked::At(s) => {
-            say(b" slice ");
-            say_number(s as u64);
+            say(rt, b" slice ")?;
+            say_number(rt, s as u64)?;
         }
     }
-    say(b"\n");
+    say(rt, b"\n")
 }
 
 // The slices of all five ranks, and of the first number that is no rank.
-fn print_acquired(file: &[u8]) {
-    let mut rank = 0;
-    while rank < 6 {
-        print_ranked(file, rank);
-        rank += 1;
+fn print_acquired(rt: &impl Print, file: &[u8]) -> io::Result<()> {
+    for rank in 0..6 {
+        print_ranked(rt, file, rank)?;
     }
+    Ok(())
 }
 
-fn print_rank(file: &[u8], s: u64) {
+fn print_rank(rt: &impl Print, file: &[u8], s: u64) -> io::Result<()> {
     let answer = slice_position::slice_at(file, s);
     match answer {
         Slice::Timed(rank, _) => {
-            say(b" ");
-            say_number(rank as u64);
+            say(rt, b" ")?;
+            say_number(rt, rank as u64)
         }
-        _ => say(b" none"),
+        _ => say(rt, b" none"),
     }
 }
 
 // The ranks of the slices 1 to last.
-fn print_ranks(file: &[u8], last: u8)
+fn print_ranks(rt: &impl Print, file: &[u8], last: u8) -> io::Result<()>
     requires { last < 7 }
 {
-    let mut s = 1;
-    while s <= last {
-        print_rank(file, s as u64);
-        s += 1;
+    for s in 1..=last {
+        print_rank(rt, file, s as u64)?;
     }
-    say(b"\n");
+    say(rt, b"\n")
 }
 
 // Seven slices, of which 1 to 5 were acquired, each in this time.
-fn print_table(code: u8, duration: u32) {
+fn print_table(rt: &impl Print, code: u8, duration: u32) -> io::Result<()> {
     let mut file = [0u8; 348];
     put_shape(&mut file, 1, 1, 7);
     put_timing(&mut file, code, 1, 5, duration);
-    say(b"slices 1 to 5, code ");
-    say_number(code as u64);
-    say(b", duration ");
-    say_bits(duration);
-    say(b"\n");
-    print_slices(&file);
-    print_acquired(&file);
+    say(rt, b"slices 1 to 5, code ")?;
+    say_number(rt, code as u64)?;
+    say(rt, b", duration ")?;
+    say_bits(rt, duration)?;
+    say(rt, b"\n")?;
+    print_slices(rt, &file)?;
+    print_acquired(rt, &file)
 }
 
 // Seven slices, of which 1 to last were acquired: their ranks by a code.
-fn print_code(code: u8, last: u8)
+fn print_code(rt: &impl Print, code: u8, last: u8) -> io::Result<()>
     requires { last < 7 }
 {
     let mut file = [0u8; 348];
     put_shape(&mut file, 1, 1, 7);
     put_timing(&mut file, code, 1, last as i16, 0x3dcc_cccd);
-    say(b"slices 1 to ");
-    say_number(last as u64);
-    say(b", code ");
-    say_number(code as u64);
-    say(b", ranks");
-    print_ranks(&file, last);
+    say(rt, b"slices 1 to ")?;
+    say_number(rt, last as u64)?;
+    say(rt, b", code ")?;
+    say_number(rt, code as u64)?;
+    say(rt, b", ranks")?;
+    print_ranks(rt, &file, last)
 }
 
-fn print_codes(last: u8)
+fn print_codes(rt: &impl Print, last: u8) -> io::Result<()>
     requires { last < 7 }
 {
-    let mut code = 1;
-    while code <= 6 {
-        print_code(code, last);
-        code += 1;
+    for code in 1..=6 {
+        print_code(rt, code, last)?;
     }
+    Ok(())
 }
 
-fn print_position(file: &[u8], i: u64, j: u64, k: u64) {
-    say(b"position");
+fn print_position(rt: &impl Print, file: &[u8], i: u64, j: u64, k: u64) -> io::Result<()> {
+    say(rt, b"position")?;
     let answer = slice_position::position_of(file, i, j, k);
     match answer {
         Positioned::At(p) => {
-            say(b" ");
-            say_float(p.x);
-            say(b" ");
-            say_float(p.y);
-            say(b" ");
-            say_float(p.z);
+            say(rt, b" ")?;
+            say_float(rt, p.x)?;
+            say(rt, b" ")?;
+            say_float(rt, p.y)?;
+            say(rt, b" ")?;
+            say_float(rt, p.z)?;
         }
-        Positioned::Refused(r) => print_refusal(r.number, r.place),
+        Positioned::Refused(r) => print_refusal(rt, r.number, r.place)?,
     }
-    say(b"\n");
+    say(rt, b"\n")
 }
 
 // The first row rounds differently in any other order; the others are y = j and z = k.
-fn print_positions(sform_code: i16) {
+fn print_positions(rt: &impl Print, sform_code: i16) -> io::Result<()> {
     let mut file = [0u8; 348];
     put_shape(&mut file, 186, 207, 60);
     store::put_i16(&mut file, 254, Order::Little, sform_code);
@@ -215,22 +210,20 @@ fn print_positions(sform_code: i16) {
     );
     put_row(&mut file, 296, 0, 0x3f80_0000, 0, 0);
     put_row(&mut file, 312, 0, 0, 0x3f80_0000, 0);
-    print_position(&file, 185, 206, 59);
-    print_position(&file, 186, 206, 59);
+    print_position(rt, &file, 185, 206, 59)?;
+    print_position(rt, &file, 186, 206, 59)
 }
 
-fn main() {
-    let mut code = 1;
-    while code <= 6 {
-        print_table(code, 0x3dcc_cccd);
-        code += 1;
+fn main(rt: HostRuntime) -> io::Result<()> {
+    for code in 1..=6 {
+        print_table(&rt, code, 0x3dcc_cccd)?;
     }
-    print_table(0, 0x3dcc_cccd);
-    print_table(3, 0x7f7f_ffff);
-    print_codes(4);
-    print_codes(6);
-    print_codes(2);
-    print_positions(1);
-    print_positions(0);
-    print_positions(-1);
+    print_table(&rt, 0, 0x3dcc_cccd)?;
+    print_table(&rt, 3, 0x7f7f_ffff)?;
+    print_codes(&rt, 4)?;
+    print_codes(&rt, 6)?;
+    print_codes(&rt, 2)?;
+    print_positions(&rt, 1)?;
+    print_positions(&rt, 0)?;
+    print_positions(&rt, -1)
 }

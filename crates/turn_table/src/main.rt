@@ -11,90 +11,97 @@
 //       sys.stdout.buffer.write(h + SOME + extension() + bytes(range(12)) + bytes([200, 201, 202]))' > ../crates/turn_table/stdin
 #![tactic(auto)]
 
-use libc::{STDIN_FILENO, STDOUT_FILENO};
+use std::io;
+use std::io::Read;
 use turn::Turned;
 
-fn say(text: &[u8]) {
-    io::write_all(STDOUT_FILENO, text);
+fn say(rt: &impl Print, text: &[u8]) -> io::Result<()> {
+    rt.write_all(text)
 }
 
-fn say_number(n: u64) {
-    say(b" ");
-    io::print_decimal(STDOUT_FILENO, n);
+fn say_number(rt: &impl Print, n: u64) -> io::Result<()> {
+    print!(rt; " {n}")
 }
 
-fn say_byte(b: u8) {
-    say_number(b as u64);
+fn say_byte(rt: &impl Print, b: u8) -> io::Result<()> {
+    say_number(rt, b as u64)
 }
 
-fn print_bytes(name: &[u8], part: &[u8]) {
-    say(name);
-    let mut k = 0;
-    while k < part.len() {
-        say_byte(part[k]);
-        k += 1;
+fn print_bytes(rt: &impl Print, name: &[u8], part: &[u8]) -> io::Result<()> {
+    say(rt, name)?;
+    for b in part {
+        say_byte(rt, *b)?;
     }
-    say(b"\n");
+    say(rt, b"\n")
 }
 
 // The new file is as long as the old one, which `n` says.
-fn print_file(out: &[u8], n: usize) {
+fn print_file(rt: &impl Print, out: &[u8], n: usize) -> io::Result<()> {
     if out.len() < n {
-        return;
+        return Ok(());
     }
     if n < 348 {
-        return;
+        return Ok(());
     }
-    print_bytes(b"dims", &out[42..48]);
-    print_bytes(b"pixdims", &out[80..92]);
-    print_bytes(b"srow_x", &out[280..296]);
-    print_bytes(b"srow_y", &out[296..312]);
-    print_bytes(b"srow_z", &out[312..328]);
-    print_bytes(b"dim_info", &out[39..40]);
-    print_bytes(b"slice_code", &out[122..123]);
-    print_bytes(b"qform_code", &out[252..254]);
-    print_bytes(b"behind the header", &out[348..n]);
+    print_bytes(rt, b"dims", &out[42..48])?;
+    print_bytes(rt, b"pixdims", &out[80..92])?;
+    print_bytes(rt, b"srow_x", &out[280..296])?;
+    print_bytes(rt, b"srow_y", &out[296..312])?;
+    print_bytes(rt, b"srow_z", &out[312..328])?;
+    print_bytes(rt, b"dim_info", &out[39..40])?;
+    print_bytes(rt, b"slice_code", &out[122..123])?;
+    print_bytes(rt, b"qform_code", &out[252..254])?;
+    print_bytes(rt, b"behind the header", &out[348..n])
 }
 
 // The turn of six numbers, as C names it, into a buffer of 384 bytes.
-fn print_turned(file: &[u8], a: u64, b: u64, c: u64, p: u64, q: u64, r: u64) {
+fn print_turned(
+    rt: &impl Print,
+    file: &[u8],
+    a: u64,
+    b: u64,
+    c: u64,
+    p: u64,
+    q: u64,
+    r: u64,
+) -> io::Result<()> {
     let mut out = [0u8; 384];
     let mut none = [0u8; 0];
-    say(b"axes");
-    say_number(a);
-    say_number(b);
-    say_number(c);
-    say(b" reversed");
-    say_number(p);
-    say_number(q);
-    say_number(r);
-    say(b"\n");
+    say(rt, b"axes")?;
+    say_number(rt, a)?;
+    say_number(rt, b)?;
+    say_number(rt, c)?;
+    say(rt, b" reversed")?;
+    say_number(rt, p)?;
+    say_number(rt, q)?;
+    say_number(rt, r)?;
+    say(rt, b"\n")?;
     let t = turn_answers::turn_of(a, b, c, p, q, r);
     let turned = turn::turn(file, &file[0..0], t, &mut out, &mut none);
     match turned {
-        Turned::Made(n) => print_file(&out, n.file),
+        Turned::Made(n) => print_file(rt, &out, n.file),
         Turned::Refused(r) => {
-            say(b"refused");
-            say_number(r.number);
-            say(b"\n");
+            say(rt, b"refused")?;
+            say_number(rt, r.number)?;
+            say(rt, b"\n")
         }
     }
 }
 
-fn main() {
-    let mut buffer = [0u8; 384];
-    let n = io::read_full(STDIN_FILENO, &mut buffer);
-    let file = &buffer[..n];
-    print_turned(file, 1, 2, 3, 0, 0, 0);
-    print_turned(file, 1, 3, 2, 0, 0, 0);
-    print_turned(file, 2, 1, 3, 0, 0, 0);
-    print_turned(file, 2, 3, 1, 0, 0, 0);
-    print_turned(file, 3, 1, 2, 0, 0, 0);
-    print_turned(file, 3, 2, 1, 0, 0, 0);
-    print_turned(file, 1, 2, 3, 1, 0, 0);
-    print_turned(file, 1, 2, 3, 0, 1, 0);
-    print_turned(file, 1, 2, 3, 0, 0, 1);
-    print_turned(file, 2, 3, 1, 1, 1, 1);
-    print_turned(file, 2, 3, 2, 0, 0, 0);
-    print_turned(file, 0, 1, 2, 0, 0, 0);
+fn main(rt: HostRuntime) -> io::Result<()> {
+    let mut input = Vec::new(rt.alloc());
+    rt.reader().take(384).read_to_end(&mut input)?;
+    let file = &input;
+    print_turned(&rt, file, 1, 2, 3, 0, 0, 0)?;
+    print_turned(&rt, file, 1, 3, 2, 0, 0, 0)?;
+    print_turned(&rt, file, 2, 1, 3, 0, 0, 0)?;
+    print_turned(&rt, file, 2, 3, 1, 0, 0, 0)?;
+    print_turned(&rt, file, 3, 1, 2, 0, 0, 0)?;
+    print_turned(&rt, file, 3, 2, 1, 0, 0, 0)?;
+    print_turned(&rt, file, 1, 2, 3, 1, 0, 0)?;
+    print_turned(&rt, file, 1, 2, 3, 0, 1, 0)?;
+    print_turned(&rt, file, 1, 2, 3, 0, 0, 1)?;
+    print_turned(&rt, file, 2, 3, 1, 1, 1, 1)?;
+    print_turned(&rt, file, 2, 3, 2, 0, 0, 0)?;
+    print_turned(&rt, file, 0, 1, 2, 0, 0, 0)
 }

@@ -10,7 +10,8 @@
 //       + b"\xff" * 5 + struct.pack(">6h", *range(10, 16)))' > ../crates/voxel_bytes/stdin
 #![tactic(auto)]
 
-use libc::{STDIN_FILENO, STDOUT_FILENO};
+use std::io;
+use std::io::Read;
 
 const SINGLE_END: usize = 364;
 
@@ -18,69 +19,75 @@ const HEADER_END: usize = 712;
 
 const IMAGE_END: usize = 729;
 
-fn say(text: &[u8]) {
-    io::write_all(STDOUT_FILENO, text);
+fn say(rt: &impl Print, text: &[u8]) -> io::Result<()> {
+    rt.write_all(text)
 }
 
-fn say_number(n: u64) {
-    io::print_decimal(STDOUT_FILENO, n);
+fn say_number(rt: &impl Print, n: u64) -> io::Result<()> {
+    print!(rt; "{n}")
 }
 
-fn say_byte(b: u8) {
-    say(b" ");
-    say_number(b as u64);
+fn say_byte(rt: &impl Print, b: u8) -> io::Result<()> {
+    say(rt, b" ")?;
+    say_number(rt, b as u64)
 }
 
-fn print_bytes(part: &[u8]) {
-    let mut k = 0;
-    while k < part.len() {
-        say_byte(part[k]);
-        k += 1;
+fn print_bytes(rt: &impl Print, part: &[u8]) -> io::Result<()> {
+    for b in part {
+        say_byte(rt, *b)?;
     }
-    say(b"\n");
+    say(rt, b"\n")
 }
 
-fn print_voxel<'a>(file: &'a [u8], image: &'a [u8], i: u64, j: u64) {
-    say(b"voxel ");
-    say_number(i);
-    say(b" ");
-    say_number(j);
-    say(b":");
-    print_bytes(by_file::voxel(file, image, i, j, 0, 0, 0, 0, 0));
+fn print_voxel<'a>(
+    rt: &impl Print,
+    file: &'a [u8],
+    image: &'a [u8],
+    i: u64,
+    j: u64,
+) -> io::Result<()> {
+    say(rt, b"voxel ")?;
+    say_number(rt, i)?;
+    say(rt, b" ")?;
+    say_number(rt, j)?;
+    say(rt, b":")?;
+    print_bytes(rt, by_file::voxel(file, image, i, j, 0, 0, 0, 0, 0))
 }
 
 // All six voxels, and the first index outside each axis.
-fn print_voxels<'a>(file: &'a [u8], image: &'a [u8]) {
-    print_voxel(file, image, 0, 0);
-    print_voxel(file, image, 1, 0);
-    print_voxel(file, image, 2, 0);
-    print_voxel(file, image, 3, 0);
-    print_voxel(file, image, 0, 1);
-    print_voxel(file, image, 1, 1);
-    print_voxel(file, image, 2, 1);
-    print_voxel(file, image, 0, 2);
+fn print_voxels<'a>(rt: &impl Print, file: &'a [u8], image: &'a [u8]) -> io::Result<()> {
+    print_voxel(rt, file, image, 0, 0)?;
+    print_voxel(rt, file, image, 1, 0)?;
+    print_voxel(rt, file, image, 2, 0)?;
+    print_voxel(rt, file, image, 3, 0)?;
+    print_voxel(rt, file, image, 0, 1)?;
+    print_voxel(rt, file, image, 1, 1)?;
+    print_voxel(rt, file, image, 2, 1)?;
+    print_voxel(rt, file, image, 0, 2)
 }
 
-fn print_files(input: &[u8]) {
+fn print_files(rt: &impl Print, input: &[u8]) -> io::Result<()> {
     if input.len() != IMAGE_END {
-        return;
+        return Ok(());
     }
     let file = &input[0..SINGLE_END];
     let header = &input[SINGLE_END..HEADER_END];
     let image = &input[HEADER_END..];
-    say(b"single file\n");
-    print_voxels(file, &file[0..0]);
-    say(b"single file, with the image file of another\n");
-    print_voxels(file, image);
-    say(b"pair\n");
-    print_voxels(header, image);
-    say(b"pair, its image file a byte short\n");
-    print_voxels(header, &image[0..16]);
+    say(rt, b"single file\n")?;
+    print_voxels(rt, file, &file[0..0])?;
+    say(rt, b"single file, with the image file of another\n")?;
+    print_voxels(rt, file, image)?;
+    say(rt, b"pair\n")?;
+    print_voxels(rt, header, image)?;
+    say(rt, b"pair, its image file a byte short\n")?;
+    print_voxels(rt, header, &image[0..16])
 }
 
-fn main() {
+fn main(rt: HostRuntime) -> io::Result<()> {
+    let mut input = Vec::new(rt.alloc());
     // One byte more than is taken tells that the input is longer.
-    let mut buffer = [0u8; 730];
-    let n = io::read_full(STDIN_FILENO, &mut buffer);
-    print_files(&buffer[..n]);
+    rt.reader()
+        .take(IMAGE_END as u64 + 1)
+        .read_to_end(&mut input)?;
+    print_files(&rt, &input)
 }
