@@ -147,7 +147,7 @@ module _ {s : List ℕ} {xs : List Span} (f : AcceptedFile s xs) where
   walked h =
       (λ i. walk (order_is i) extension_limit first_place (rest_of swapped (region_end (kind_is i) (image_of (shape_is i)) (length-is i)) first_place))
       ∙ ap (walk (other (order_of s)) extension_limit first_place)
-      (rest_turned (end_of s) xs (own_image (kind_of s) (place_of s) (unit_for s)) s (f.some h) (f.fills (f.some h)) f.end-inside)
+      (rest_turned (end_of s) xs (own_image (kind_of s) (place_of s) (unit_for s)) s (f.some h) (f.fills (f.some h)) f.end_inside)
       ∙ walk_turned (order_of s) first_place (region_of s) xs f.complete f.spans (f.region h) (f.some h) f.few
 
   extensions_are : extensions_of (layout_of swapped) swapped ≡ listed xs

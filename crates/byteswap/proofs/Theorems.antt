@@ -201,9 +201,9 @@ module _ (file image : List ℕ) (a : swap_answer file image ≡ Accepted) where
         let e = swaps.1 in
         let f = accepts file image xs e in
         let unit = unit_known file t d in
-        let some : 1 ≤ unit_for file = rw unit (known_sound (shape_of file).datatype t d).unit-some in
+        let some : 1 ≤ unit_for file = rw unit (known_sound (shape_of file).datatype t d).unit_some in
         let v =
-        voxel_turned (kind_of file) (place_of file) (unit_for file) (t.bytes / t.unit) k xs file image some (rw units_of h) f.end-behind
+        voxel_turned (kind_of file) (place_of file) (unit_for file) (t.bytes / t.unit) k xs file image some (rw units_of h) f.end_behind
         f.fills (room f) (image_room file image xs e) in
         (λ i. voxel_in k (holder (kind_of file) (file_is file image xs e i) (image_turned file image xs e i)))
         ∙ rw units_of at v

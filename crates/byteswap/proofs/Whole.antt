@@ -51,7 +51,7 @@ unit_known s t d = ap unit_of d
 pub unit_some : {s : List ℕ} {xs : List Span} → AcceptedFile s xs → 1 ≤ unit_for s
 unit_some {s} f =
     let t = f.rules.fields in
-    rw (unit_known s t.format t.known) (known_sound (shape_of s).datatype t.format t.known).unit-some
+    rw (unit_known s t.format t.known) (known_sound (shape_of s).datatype t.format t.known).unit_some
 
 -- ---- What they span
 
@@ -105,8 +105,8 @@ module _ {s : List ℕ} {xs : List Span} (f : AcceptedFile s xs) where
         span-append header_runs (region_runs (end_of s) xs ++ own),
         span-append (region_runs (end_of s) xs) own,
         header_span,
-        region_span (end_of s) xs f.end-behind f.fills,
-        own_span (kind_of s) (place_of s) (unit_for s) (length s) f.end-inside f.rules.whole,
+        region_span (end_of s) xs f.end_behind f.fills,
+        own_span (kind_of s) (place_of s) (unit_for s) (length s) f.end_inside f.rules.whole,
       )
 
   module _ (l₁ l₂ : List ℕ) (e₁ : l₁ ≡ turn_runs_at 0 header_runs s) (e₂ : l₂ ≡ turn_runs_at first_place (extension_runs xs) l₁) where
@@ -116,7 +116,7 @@ module _ {s : List ℕ} {xs : List Span} (f : AcceptedFile s xs) where
     left =
         let c0 : Chain goal 0 (header_runs ++ (region_runs (end_of s) xs ++ own)) s = record { comes = refl; room = rw zero-add room } in
         let c1 = chain_runs 0 header_runs (region_runs (end_of s) xs ++ own) s l₁ c0 e₁ in
-        region_next (end_of s) xs own l₁ l₂ f.end-behind f.fills (rw header_span at c1) e₂
+        region_next (end_of s) xs own l₁ l₂ f.end_behind f.fills (rw header_span at c1) e₂
 
     left_by_lem : (kind : Kind) → kind_of s ≡ kind → Chain goal (region_end kind (place_of s) (length s)) (own_image kind (place_of s) (unit_for s)) l₂
     left_by_lem kind k = subst (λ (x : Kind). Chain goal (region_end x (place_of s) (length s)) (own_image x (place_of s) (unit_for s)) l₂) k left

@@ -132,21 +132,21 @@ module _ (l : List ℕ) (len : ℕ) (change : Change) (code : ℤ) (p : List ℕ
       let E = region_to f in
       let W = max len first_place in
       let fresh = length (fresh_of f change code p) in
-      let o : x.at + x.old ≤ E = rw (v.at-is, v.old-is) (out_inside f change k.present k.cut) in
+      let o : x.at + x.old ≤ E = rw (v.at_is, v.old_is) (out_inside f change k.present k.cut) in
       let n = length_new (order_of f) change code p in
-      let e : x.end ≡ E - x.old + x.new = rw (v.end_is, v.old-is, v.new_is, n) (end_new f change k.present k.cut code p) in
+      let e : x.end ≡ E - x.old + x.new = rw (v.end_is, v.old_is, v.new_is, n) (end_new f change k.present k.cut code p) in
       let w : fresh ≡ W - x.old + x.new =
-      rw (v.old-is, v.new_is, n) (rw lf at (whole_new f change k.present k.cut code p k.long)) in
+      rw (v.old_is, v.new_is, n) (rw lf at (whole_new f change k.present k.cut code p k.long)) in
       let g : fresh ≡ x.end + length (tail_of f) = rw v.end_is (length-fresh f (edited_list f change code p) k.long) in
       let c : W ≡ first_place + length (joined xs) + length (tail_of f) = rw lf at k.cut.whole in
       let s = sums x.at x.old x.new x.end E W (length (joined xs)) (length (tail_of f)) fresh (length l) len
-      (omega (arith, v.at-is)) o k.cut.base c e w g a.fits hl (omega arith) in
+      (omega (arith, v.at_is)) o k.cut.base c e w g a.fits hl (omega arith) in
       record {
         out = s.out;
         inside = s.inside;
         room = s.room;
-        new_inside = s.new-inside;
-        end_limit = rw v.end_is a.end-limit;
+        new_inside = s.new_inside;
+        end_limit = rw v.end_is a.end_limit;
         long = s.long;
         result = w;
       }
@@ -181,7 +181,7 @@ module _ (l : List ℕ) (len : ℕ) (change : Change) (code : ℤ) (p : List ℕ
   unfolding edited_list
   list_is =
       rw file_is
-      (exchanged front xs ys (tail_of f) i j front_length_lem (places change (length xs) a.known.present).0 x.at x.old v.at-is v.old-is)
+      (exchanged front xs ys (tail_of f) i j front_length_lem (places change (length xs) a.known.present).0 x.at x.old v.at_is v.old_is)
 
   -- the moves leave the front as it was
   front_kept : (g r : List ℕ) → g ≡ front ++ r → take first_place (settled l (max len first_place) g) ≡ take first_place l
@@ -219,7 +219,7 @@ module _ (l : List ℕ) (len : ℕ) (change : Change) (code : ℤ) (p : List ℕ
         let s = buffer_long in
         let lx : length (take 4 (drop 348 l)) ≡ 4 = length-take-le 4 (drop 348 l) (rw length-drop (omega arith)) in
         let t = extended (take 348 f) (take 4 (drop 348 l)) e r lt lx (length_extender f zs) in
-        rw (list_is, t, v.kind-is, v.order_is, v.end_is)
+        rw (list_is, t, v.kind_is, v.order_is, v.end_is)
         (headed (kind_of f) (order_of f) (end_for zs) (take 348 f) (e ++ r) (omega arith))
 
     -- what the four steps leave

@@ -101,11 +101,11 @@ module _ (f : List ℕ) (room : ℕ) (change : Change) (code : ℤ) (p : List �
   ends : Ends (end_for xs)
   ends =
       let u = joined_units (edited_complete f room change code p fits may) in
-      record { units = omega arith; least = omega arith; most = may.end-limit }
+      record { units = omega arith; least = omega arith; most = may.end_limit }
 
   -- the record after an edit, as one equation
   pub edit_reads : reading_of g ≡ read_after (reading_of f) xs
-  edit_reads = reads_new f xs long ends (edited_complete f room change code p fits may) may.count-limit ss file
+  edit_reads = reads_new f xs long ends (edited_complete f room change code p fits may) may.count_limit ss file
 
   new_accepted : IsAccepted g
   new_accepted = ap (λ (r : Reading). r.verdict) edit_reads ∙ may.accepted
@@ -144,7 +144,7 @@ module _ (f : List ℕ) (room : ℕ) (change : Change) (code : ℤ) (p : List �
       record {
         accepted = new_accepted;
         reads = edit_reads;
-        list = list_new f xs long ends (edited_complete f room change code p fits may) may.count-limit file.rules;
+        list = list_new f xs long ends (edited_complete f room change code p fits may) may.count_limit file.rules;
         extender = extender_at f xs long;
         single = λ k. moved (sym kind_old ∙ k);
         pair = λ k. pair_head f xs long (sym kind_old ∙ k);

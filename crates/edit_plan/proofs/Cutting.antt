@@ -67,7 +67,7 @@ module _ (f : List ℕ) (ss : List Span) (a : AcceptedFile f ss) where
   cut_some : has_extensions f ≡ true → Cut f
   cut_some h =
       let j : joined (extension_list f) ≡ region_of f = rw list_is (a.region h) in
-      let i = a.end-inside in
+      let i = a.end_inside in
       let l : length (joined (extension_list f)) ≡ min (end_of f) (length f) - first_place = ap length j ∙ length_rest f (end_of f) first_place in
       let s = joined_some list_complete (omega (arith, length_list, a.some h)) in
       let b : max (end_of f) first_place ≡ end_of f = omega arith in
@@ -81,7 +81,7 @@ module _ (f : List ℕ) (ss : List Span) (a : AcceptedFile f ss) where
   cut_none : has_extensions f ≡ false → end_of f ≤ first_place → Cut f
   unfolding pieces
   cut_none h e =
-      let i = a.end-inside in
+      let i = a.end_inside in
       let x : extension_list f ≡ [] = list_is ∙ rw (a.none h) in
       let b : max (end_of f) first_place ≡ first_place = omega arith in
       let t : drop first_place f ≡ tail_of f = rw b at tail_is in

@@ -105,7 +105,7 @@ pub past_by : (f : List ℕ) (ss : List Span) → AcceptedFile f ss → (change 
     → offers_negative change code ≡ false → enters_private change f ≡ false → Past f change code
 past_by f ss a change code m n e =
     let l = length_list f ss a in
-    let d = a.end-small in
+    let d = a.end_small in
     let w = a.few in
     record {
       present = m;
@@ -181,7 +181,7 @@ module _ (f : List ℕ) (room : ℕ) (change : Change) (code : ℤ) (p : List �
     much_by = too_many change o.count || ltb offset_limit (end - old + new)
 
     much : much_by ≡ too_much (edited_list f change code p)
-    much = rw (count_is, v.end_is, v.old-is, v.new_is) (much_is f change k.present k.cut code p k.few)
+    much = rw (count_is, v.end_is, v.old_is, v.new_is) (much_is f change k.present k.cut code p k.few)
 
     pub on_21 : much_by ≡ true → Stop (refusal 21 0) ≡ planned_of f room change code p
     on_21 t = stops_21 f room change code p accepted k.present k.offered k.entered (sym much ∙ t)
@@ -194,7 +194,7 @@ module _ (f : List ℕ) (room : ℕ) (change : Change) (code : ℤ) (p : List �
           omega (arith, v.new_is)
 
       whole : length (fresh_of f change code p) ≡ max (length f) first_place - old + new
-      whole = rw (v.old-is, new_whole) (whole_new f change k.present k.cut code p k.long)
+      whole = rw (v.old_is, new_whole) (whole_new f change k.present k.cut code p k.long)
 
       pub on_22 : room < max (length f) first_place - old + new → Stop (refusal 22 0) ≡ planned_of f room change code p
       on_22 l =
@@ -217,13 +217,13 @@ module _ (f : List ℕ) (room : ℕ) (change : Change) (code : ℤ) (p : List �
           let d = sym shown.layout in
           let n : new ≡ length (joined (brought_in (order_of f) change code p)) = new_whole ∙ sym (length_new (order_of f) change code p) in
           let x : end - old + new ≡ end_for (edited_list f change code p) =
-          rw (v.end_is, v.old-is, new_whole) (sym (end_new f change k.present k.cut code p)) in
+          rw (v.end_is, v.old_is, new_whole) (sym (end_new f change k.present k.cut code p)) in
           (λ i.
           Go (record {
             order = (d i).order;
             kind = (d i).kind;
-            at = v.at-is i;
-            old = v.old-is i;
+            at = v.at_is i;
+            old = v.old_is i;
             new = n i;
             end = x i;
             aligned = aligned_after (d i).kind (d i).aligned;
@@ -284,4 +284,4 @@ edited_complete f room change code p fits a =
     let e = end_new f change k.present k.cut code p in
     complete_exchange (extension_list f) (brought_in (order_of f) change code p) (out_from change (count_of f)) (out_to change (count_of f))
     (list_complete f x.list x.file)
-    (brought_complete (order_of f) change code p fits k.offered (omega (arith, a.end-limit, e)))
+    (brought_complete (order_of f) change code p fits k.offered (omega (arith, a.end_limit, e)))

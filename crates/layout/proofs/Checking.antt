@@ -74,7 +74,7 @@ module _ (s : List ℕ) (len : ℕ) where
 
   module _ (order : Order) (kind : Kind) (b : Began s len order kind) where
     same_shape : shape_in order kind s ≡ shape_of s
-    same_shape = rw (b.order_is, b.kind-is)
+    same_shape = rw (b.order_is, b.kind_is)
 
     pub checks_fields : (r : Refusal) → judged_of (shape_in order kind s) len ≡ Failed r → Breaks r ≡ checked_in s len
     checks_fields r e =
@@ -86,7 +86,7 @@ module _ (s : List ℕ) (len : ℕ) where
       fields = judged_passed_is (shape_of s) len image aligned (rw same_shape at e)
 
       with_end : (v : Verdict) → verdict (end_rows kind image len) ≡ v → parts ≡ v
-      with_end v d = rw (b.passed, fields.0) ((λ i. verdict (end_rows (b.kind-is i) (fields.1 i) len)) ∙ d)
+      with_end v d = rw (b.passed, fields.0) ((λ i. verdict (end_rows (b.kind_is i) (fields.1 i) len)) ∙ d)
 
       pub checks_end : (r : Refusal) → verdict (end_rows kind image len) ≡ Refused r → Breaks r ≡ checked_in s len
       checks_end r d = by_parts (Refused r) (with_end (Refused r) d)
@@ -97,7 +97,7 @@ module _ (s : List ℕ) (len : ℕ) where
           (λ i.
           Fits (record {
             order = sym b.order_is i;
-            kind = sym b.kind-is i;
+            kind = sym b.kind_is i;
             image = sym fields.1 i;
             aligned = sym fields.2 i;
           }))

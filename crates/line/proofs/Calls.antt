@@ -71,7 +71,7 @@ module _ (file image : List ℕ) (axis : ℕ) (index out : List ℕ) where
   module _ (o : Outline) (e : outline_of 0 file ≡ Shown o) where
     shown_volume : shown.volume file o e ≡ volume_of (reading_of file).header
     shown_volume =
-        ap (λ (f : Shape). volume_with f (sizes_by f.dim (axis_count f.dim) (bytes_in f))) (shown.shown-shape file o e)
+        ap (λ (f : Shape). volume_with f (sizes_by f.dim (axis_count f.dim) (bytes_in f))) (shown.shown_shape file o e)
         ∙ volume_is file image (shown_accepted file 0 o e)
 
     pub lines_shown : (v : Volume) → v ≡ shown.volume file o e → (answer : Lined) (out' : List ℕ)

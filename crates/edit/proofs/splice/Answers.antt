@@ -69,7 +69,7 @@ put_new-requires c =
     let r = s.room in
     let q = s.out in
     let y : plan-at.at + size ≤ length buffer-at = omega (arith, x, o, r, q) in
-    let z : plan-at.at + size ≤ offset_limit = omega (arith, x, o, s.new-inside, s.end-limit) in
+    let z : plan-at.at + size ≤ offset_limit = omega (arith, x, o, s.new_inside, s.end_limit) in
     (omega (arith, n, y, k), omega (arith, n, z))
 
 pub put_extender-requires : goal.put_extender-requires
@@ -113,7 +113,7 @@ put_offset-requires c =
         sizes buffer-at len-at change-at code_at payload-at plan-at c.requires.0 allowed_at carries-at in
     let s = sizes-at in
     let i = s.inside in
-    (omega (arith, c.put_extender.auto.buf, c.put_new.kept.0, c.make_room.kept.0), s.end-limit)
+    (omega (arith, c.put_extender.auto.buf, c.put_new.kept.0, c.make_room.kept.0), s.end_limit)
 
 pub overflow_sub-result : goal.overflow_sub-result
 overflow_sub-result c =

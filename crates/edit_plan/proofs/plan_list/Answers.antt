@@ -91,7 +91,7 @@ overflow_sub-next c =
     let k = past-at in
     let v = numbers-at in
     let o = out_inside file-at change-at k.present k.cut in
-    omega (arith, v.end_is, v.old-is)
+    omega (arith, v.end_is, v.old_is)
 
 pub overflow_add-next : goal.overflow_add-next
 overflow_add-next c =
@@ -178,7 +178,7 @@ overflow_sub-greater c =
     let k = past-at in
     let v = numbers-at in
     let o = out_inside file-at change-at k.present k.cut in
-    omega (arith, v.old-is, k.cut.base, k.cut.whole, c.greater.ensures)
+    omega (arith, v.old_is, k.cut.base, k.cut.whole, c.greater.ensures)
 
 pub returns-then-room-greater : goal.returns-then-room-greater
 returns-then-room-greater c =

@@ -17,7 +17,7 @@ use borrow.Author.Rules.{rules}
 use Rattle.layout.proofs.start_by.Goals as goal
 
 pub returns-then-read_i32-ne348 : goal.returns-then-read_i32-ne348
-returns-then-read_i32-ne348 c =
+returns-then-read_i32-ne348 c len long =
     let bytes = c.args.file.now in
     let sized-as = is_number (i32_at (order_of bytes) bytes 0) 348 in
     let ordered : holds_in (order_of bytes) bytes ≡ true = rw c.requires.1 c.requires.2 in
@@ -28,7 +28,7 @@ returns-then-read_i32-ne348 c =
     ∙ starts_3 bytes len long ordered (by_size ∙ ne_eqb (of_z w32 c.read_i32.result) 348 c.if-read_i32-ne348.true)
 
 pub returns-then-not-has_magic : goal.returns-then-not-has_magic
-returns-then-not-has_magic c =
+returns-then-not-has_magic c len long =
     let bytes = c.args.file.now in
     let sized-as = is_number (i32_at (order_of bytes) bytes 0) 348 in
     let ordered : holds_in (order_of bytes) bytes ≡ true = rw c.requires.1 c.requires.2 in
@@ -40,7 +40,7 @@ returns-then-not-has_magic c =
     c.unread-then-not-has_magic.ensures ∙ starts_4 bytes len long ordered sized other
 
 pub returns : goal.returns
-returns c =
+returns c len long =
     let bytes = c.args.file.now in
     let sized-as = is_number (i32_at (order_of bytes) bytes 0) 348 in
     let ordered : holds_in (order_of bytes) bytes ≡ true = rw c.requires.1 c.requires.2 in

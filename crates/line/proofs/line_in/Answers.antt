@@ -1,6 +1,5 @@
 -- `line_in` meets its contract: what the offset's decoder answers, by rules 8 and 9, and else the rest.
 use mathlib.Core.Path.{sym, ◌∙◌}
-use mathlib.Core.Logic.{⊎_elim}
 use native.Mathlib.Omega.{arith}
 use Rattle.line.proofs.Calls.{record_refused, record_copies}
 use borrow.Author.Rules.{rules}
@@ -16,5 +15,5 @@ pub returns-in_default : goal.returns-in_default
 returns-in_default c =
     let a = c.args in
     record_copies a.header a.file.now a.image.now a.axis a.index a.out.now c.decode-offset.result (sym c.decode-offset.ensures)
-    (λ r e. ⊎_elim (λ k. omega arith) (λ k. omega arith) (rw e at c.in_default.in_default-own.keys2)) _ _
+    c.in_default.not-Refused _ _
     (rw c.whole_in.ensures at c.line_at.ensures)

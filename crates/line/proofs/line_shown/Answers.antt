@@ -37,7 +37,7 @@ returns c =
     let bitpix-is : to_z w16 (of_z w16 c.read_i16-bitpix.result) ≡ read.bitpix = to_z-of_z w16 c.read_i16-bitpix.result (record { sfits = c.read_i16-bitpix.type_inv }) ∙ c.read_i16-bitpix.ensures in
     let sizes-are : c.sizes_in.result ≡ (shown.volume c.args.file.now c.args.outline c.requires).sizes = rw (dims-are, bitpix-is) at c.sizes_in.ensures in
     let a = c.args in
-    let offset = ap (λ (i : Image). i.offset) (sym (shown.shown-image a.file.now a.outline c.requires)) in
+    let offset = ap (λ (i : Image). i.offset) (sym (shown.shown_image a.file.now a.outline c.requires)) in
     lines_shown a.file.now a.image.now a.axis a.index a.out.now a.outline c.requires _
     (λ i. record { dim = dims-are i; offset = offset i; sizes = sizes-are i; kind = a.outline.layout.kind }) _ _
     c.line_at.ensures

@@ -13,9 +13,10 @@ returns c =
     let second = c.length_at-2 in
     let first = c.length_at in
     let a = c.args in
-    let l = length_at a.dim.now in (
-      (λ n. ltb a.i (first.ensures.0 n) && (ltb a.j (second.ensures.0 n) && ltb a.k (third.ensures.0 n)))
-          ∙ three_within (l 1) (l 2) (l 3) a.i a.j a.k,
-      small_index first.result second.result third.result a.i a.j a.k
-          first.ensures.1 second.ensures.1 third.ensures.1,
-    )
+    let l = length_at a.dim.now in
+    record {
+      is =
+        (λ n. ltb a.i (first.ensures.0 n) && (ltb a.j (second.ensures.0 n) && ltb a.k (third.ensures.0 n)))
+            ∙ three_within (l 1) (l 2) (l 3) a.i a.j a.k;
+      small = small_index first.result second.result third.result a.i a.j a.k first.ensures.1 second.ensures.1 third.ensures.1;
+    }

@@ -52,7 +52,7 @@ returns-then-before c =
     let at = c.args.index.now in
     let some : no_axes c.args.dim.now ≡ false = sym c.no_axes.ensures ∙ c.if-no_axes.false in
     let lengths = let dim = c.args.dim.now in seven_axes dim (axis_count dim) in
-    let answer : Reaches (lengths) c.args.steps.now (at) c.bytes_before-before.result = rw c.axis_count.ensures.0 at in
+    let answer : Reaches (lengths) c.args.steps.now (at) c.bytes_before-before.result = rw c.axis_count.ensures.0 at c.bytes_before-before.ensures in
     let low : let a = c.args in offset_outside a.kind a.offset 0 ≡ false = sym c.offset_outside.ensures ∙ c.if-offset_outside.false in
     let whole : image_cut c.args.kind c.args.len (image_at (by)) ≡ false = sym c.image_cut.ensures ∙ c.if-image_cut.false in
     c.unlocated-then-before.ensures
@@ -68,7 +68,7 @@ returns-then-strays c =
     let at = c.args.index.now in
     let some : no_axes c.args.dim.now ≡ false = sym c.no_axes.ensures ∙ c.if-no_axes.false in
     let lengths = let dim = c.args.dim.now in seven_axes dim (axis_count dim) in
-    let answer : Reaches (lengths) c.args.steps.now (at) c.bytes_before-before.result = rw c.axis_count.ensures.0 at in
+    let answer : Reaches (lengths) c.args.steps.now (at) c.bytes_before-before.result = rw c.axis_count.ensures.0 at c.bytes_before-before.ensures in
     let low : let a = c.args in offset_outside a.kind a.offset 0 ≡ false = sym c.offset_outside.ensures ∙ c.if-offset_outside.false in
     let whole : image_cut c.args.kind c.args.len (image_at (by)) ≡ false = sym c.image_cut.ensures ∙ c.if-image_cut.false in
     let inside : within (lengths) (at) ≡ true = reached_inside (answer) c.if-before.false in
@@ -85,7 +85,7 @@ overflow_add-result c =
     let by = let a = c.args in volume a.dim.now a.offset a.total a.steps.now a.kind in
     let at = c.args.index.now in
     let lengths = let dim = c.args.dim.now in seven_axes dim (axis_count dim) in
-    let answer : Reaches (lengths) c.args.steps.now (at) c.bytes_before-before.result = rw c.axis_count.ensures.0 at in
+    let answer : Reaches (lengths) c.args.steps.now (at) c.bytes_before-before.result = rw c.axis_count.ensures.0 at c.bytes_before-before.ensures in
     let low : let a = c.args in offset_outside a.kind a.offset 0 ≡ false = sym c.offset_outside.ensures ∙ c.if-offset_outside.false in
     let inside : within (lengths) (at) ≡ true = reached_inside (answer) c.if-before.false in
     let strays-is : strays (by) (at) ≡ c.strays.result =
@@ -106,7 +106,7 @@ returns c =
     let at = c.args.index.now in
     let some : no_axes c.args.dim.now ≡ false = sym c.no_axes.ensures ∙ c.if-no_axes.false in
     let lengths = let dim = c.args.dim.now in seven_axes dim (axis_count dim) in
-    let answer : Reaches (lengths) c.args.steps.now (at) c.bytes_before-before.result = rw c.axis_count.ensures.0 at in
+    let answer : Reaches (lengths) c.args.steps.now (at) c.bytes_before-before.result = rw c.axis_count.ensures.0 at c.bytes_before-before.ensures in
     let low : let a = c.args in offset_outside a.kind a.offset 0 ≡ false = sym c.offset_outside.ensures ∙ c.if-offset_outside.false in
     let whole : image_cut c.args.kind c.args.len (image_at (by)) ≡ false = sym c.image_cut.ensures ∙ c.if-image_cut.false in
     let inside : within (lengths) (at) ≡ true = reached_inside (answer) c.if-before.false in

@@ -1,6 +1,5 @@
 -- `locate_record` meets its contract: what the offset's decoder answers, by rules 8 and 9, and else the rest.
 use mathlib.Core.Path.{ap, sym, ◌∙◌}
-use mathlib.Core.Logic.{⊎_elim}
 use Prim.Native.Nat.{ℕ}
 use native.Mathlib.Omega.{arith}
 use Rattle.voxel.specs.declared.Located.TheVariants.{Unlocated}
@@ -8,9 +7,6 @@ use Rattle.voxel.specs.Steps.{volume, stepped_by}
 use Rattle.voxel.proofs.Stepping.{in_refused, in_whole}
 use borrow.Author.Rules.{rules}
 use Rattle.voxel.proofs.locate_record.Goals as goal
-
-pub locate_at-requires : goal.locate_at-requires
-locate_at-requires c = (omega (arith, slice-aggregate-locate-at c), omega (arith, slice-aggregate-locate-at-2 c), omega (arith, slice-aggregate-locate-at-3 c))
 
 pub returns-in-Refused : goal.returns-in-Refused
 returns-in-Refused c =
@@ -24,4 +20,4 @@ returns-in_default c =
     c.locate_at.ensures
     ∙ ap (λ (n : ℕ). stepped_by (volume h.dim n h.sizes.total h.sizes.steps h.kind) a.len a.index) c.whole_in-at.ensures
     ∙ in_whole h a.len a.index c.decode-offset.result (sym c.decode-offset.ensures)
-    (λ r e. ⊎_elim (λ k. omega arith) (λ k. omega arith) (rw e at c.in_default.in_default-own.keys2))
+    c.in_default.not-Refused
