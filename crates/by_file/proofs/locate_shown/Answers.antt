@@ -54,7 +54,7 @@ bytes_before-before-requires c =
     let dims-are : c.dims-dim.result ≡ read.dim = c.dims-dim.ensures in
     let count-is : c.axis_count.result ≡ axis_count read.dim = c.axis_count.ensures.0 ∙ ap axis_count dims-are in
     let few = (shown_measured c.args.file.now 0 c.args.outline c.requires).small.axes in
-    (omega (arith, count-is), omega (arith, slice-aggregate-bytes-before-2 c), search rules)
+    (omega (arith, count-is), search rules, search rules)
 
 pub returns-then-before : goal.returns-then-before
 unfolding shape_in

@@ -32,9 +32,9 @@ bounds-at-axis c = omega (arith, c.requires.first, c.requires.last)
 
 pub locate_at-located-requires : goal.locate_at-located-requires
 locate_at-located-requires c = (
-  omega (arith, slice-aggregate-locate-at c),
-  omega (arith, slice-aggregate-locate-at-2 c),
-  omega (arith, slice-aggregate-locate-at-3 c),
+  search rules,
+  search rules,
+  search rules,
 )
 
 pub copy_located-to-requires : goal.copy_located-to-requires

@@ -21,8 +21,8 @@ pub bytes_before-before-requires : goal.bytes_before-before-requires
 bytes_before-before-requires c =
     (
       omega (arith, c.axis_count-n.ensures.0, axes_few (dim_at c.args.v.dim 0) c.requires.0),
-      omega (arith, slice-aggregate-bytes-before-2 c),
-      omega (arith, slice-aggregate-bytes-before-3 c),
+      search rules,
+      search rules,
     )
 
 pub returns-then-before : goal.returns-then-before

@@ -21,12 +21,12 @@ use Rattle.line_plan.proofs.course_of.Goals as goal
 pub of_axis-i-requires : goal.of_axis-i-requires
 of_axis-i-requires c =
     let inside : Inside c.args.v.dim c.args.axis c.args.index = line_inside c.args.v.dim c.args.axis c.args.index c.requires.0 c.requires.2 in
-    (inside.first, omega (arith, inside.last, inside.few), omega (arith, slice-aggregate-of-axis c))
+    (inside.first, omega (arith, inside.last, inside.few), search rules)
 
 pub of_axis-step-requires : goal.of_axis-step-requires
 of_axis-step-requires c =
     let inside : Inside c.args.v.dim c.args.axis c.args.index = line_inside c.args.v.dim c.args.axis c.args.index c.requires.0 c.requires.2 in
-    (inside.first, omega (arith, inside.last, inside.few), omega (arith, slice-aggregate-of-axis-2 c))
+    (inside.first, omega (arith, inside.last, inside.few), search rules)
 
 pub overflow_sub-last : goal.overflow_sub-last
 overflow_sub-last c =
@@ -64,7 +64,7 @@ returns-then-strays c =
     let inside : Inside c.args.v.dim c.args.axis c.args.index = line_inside c.args.v.dim c.args.axis c.args.index c.requires.0 c.requires.2 in
     let number_of = c.of_axis-i.result in
     let number : number_of ≡ get_or c.args.index (c.args.axis - 1) 0 = c.of_axis-i.ensures in
-    let seven : length c.args.v.sizes.steps ≡ 7 = omega (arith, slice-aggregate-of-axis-2 c) in
+    let seven : length c.args.v.sizes.steps ≡ 7 = search rules in
     let strays-is : let a = c.args in strays a.v (last_along a.v a.axis a.index) ≡ c.strays.result =
         let a = c.args in
         let last = last_like a.v a.axis a.index seven inside a.before (c.requires.3.inside inside.given) in
@@ -81,7 +81,7 @@ returns-then-bytes-gt-WIDEST c =
     let inside : Inside c.args.v.dim c.args.axis c.args.index = line_inside c.args.v.dim c.args.axis c.args.index c.requires.0 c.requires.2 in
     let number_of = c.of_axis-i.result in
     let number : number_of ≡ get_or c.args.index (c.args.axis - 1) 0 = c.of_axis-i.ensures in
-    let seven : length c.args.v.sizes.steps ≡ 7 = omega (arith, slice-aggregate-of-axis-2 c) in
+    let seven : length c.args.v.sizes.steps ≡ 7 = search rules in
     let strays-is : let a = c.args in strays a.v (last_along a.v a.axis a.index) ≡ c.strays.result =
         let a = c.args in
         let last = last_like a.v a.axis a.index seven inside a.before (c.requires.3.inside inside.given) in
@@ -104,7 +104,7 @@ returns-then-out-count c =
     let inside : Inside c.args.v.dim c.args.axis c.args.index = line_inside c.args.v.dim c.args.axis c.args.index c.requires.0 c.requires.2 in
     let number_of = c.of_axis-i.result in
     let number : number_of ≡ get_or c.args.index (c.args.axis - 1) 0 = c.of_axis-i.ensures in
-    let seven : length c.args.v.sizes.steps ≡ 7 = omega (arith, slice-aggregate-of-axis-2 c) in
+    let seven : length c.args.v.sizes.steps ≡ 7 = search rules in
     let strays-is : let a = c.args in strays a.v (last_along a.v a.axis a.index) ≡ c.strays.result =
         let a = c.args in
         let last = last_like a.v a.axis a.index seven inside a.before (c.requires.3.inside inside.given) in
@@ -124,7 +124,7 @@ overflow_mul-past c =
     let number_of = c.of_axis-i.result in
     let step_of = c.of_axis-step.result in
     let number : number_of ≡ get_or c.args.index (c.args.axis - 1) 0 = c.of_axis-i.ensures in
-    let seven : length c.args.v.sizes.steps ≡ 7 = omega (arith, slice-aggregate-of-axis-2 c) in
+    let seven : length c.args.v.sizes.steps ≡ 7 = search rules in
     let strays-is : let a = c.args in strays a.v (last_along a.v a.axis a.index) ≡ c.strays.result =
         let a = c.args in
         let last = last_like a.v a.axis a.index seven inside a.before (c.requires.3.inside inside.given) in
@@ -147,7 +147,7 @@ overflow_sub-result c =
     let number_of = c.of_axis-i.result in
     let step_of = c.of_axis-step.result in
     let number : number_of ≡ get_or c.args.index (c.args.axis - 1) 0 = c.of_axis-i.ensures in
-    let seven : length c.args.v.sizes.steps ≡ 7 = omega (arith, slice-aggregate-of-axis-2 c) in
+    let seven : length c.args.v.sizes.steps ≡ 7 = search rules in
     let strays-is : let a = c.args in strays a.v (last_along a.v a.axis a.index) ≡ c.strays.result =
         let a = c.args in
         let last = last_like a.v a.axis a.index seven inside a.before (c.requires.3.inside inside.given) in
@@ -170,7 +170,7 @@ overflow_add-result c =
     let number_of = c.of_axis-i.result in
     let step_of = c.of_axis-step.result in
     let number : number_of ≡ get_or c.args.index (c.args.axis - 1) 0 = c.of_axis-i.ensures in
-    let seven : length c.args.v.sizes.steps ≡ 7 = omega (arith, slice-aggregate-of-axis-2 c) in
+    let seven : length c.args.v.sizes.steps ≡ 7 = search rules in
     let strays-is : let a = c.args in strays a.v (last_along a.v a.axis a.index) ≡ c.strays.result =
         let a = c.args in
         let last = last_like a.v a.axis a.index seven inside a.before (c.requires.3.inside inside.given) in
@@ -193,7 +193,7 @@ returns c =
     let number_of = c.of_axis-i.result in
     let step_of = c.of_axis-step.result in
     let number : number_of ≡ get_or c.args.index (c.args.axis - 1) 0 = c.of_axis-i.ensures in
-    let seven : length c.args.v.sizes.steps ≡ 7 = omega (arith, slice-aggregate-of-axis-2 c) in
+    let seven : length c.args.v.sizes.steps ≡ 7 = search rules in
     let strays-is : let a = c.args in strays a.v (last_along a.v a.axis a.index) ≡ c.strays.result =
         let a = c.args in
         let last = last_like a.v a.axis a.index seven inside a.before (c.requires.3.inside inside.given) in

@@ -10,13 +10,13 @@ use borrow.Author.Rules.{rules}
 use Rattle.piece_reader.proofs.answer.Goals as goal
 
 pub outline_in-outlined-requires : goal.outline_in-outlined-requires
-outline_in-outlined-requires c = (omega (arith, slice-aggregate-outline-in c), λ e. absurd (false≢true e))
+outline_in-outlined-requires c = (search rules, λ e. absurd (false≢true e))
 
 pub listed-requires : goal.listed-requires
 listed-requires c =
     let s = c.args.pieces in
     let fits = checked_shown (checked_in s.front s.taken) _ (sym c.outline_in-outlined.ensures ∙ c.in-Shown.is) in
-    record { in_bounds = omega (arith, slice-aggregate-listed c); measured = checked_measured s.front s.taken _ fits; front_value = checked_aligned s.front s.taken _ fits }
+    record { in_bounds = search rules; measured = checked_measured s.front s.taken _ fits; front_value = checked_aligned s.front s.taken _ fits }
 
 pub returns-in-Hidden : goal.returns-in-Hidden
 unfolding answer_of

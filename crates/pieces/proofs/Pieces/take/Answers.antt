@@ -21,7 +21,7 @@ overflow_add-total c =
     omega (arith, room)
 
 pub is_skipped-requires : goal.is_skipped-requires
-is_skipped-requires c = omega (arith, slice-aggregate-is-skipped c)
+is_skipped-requires c = search rules
 
 pub returns-then-is_skipped : goal.returns-then-is_skipped
 unfolding taken_of taken_with
