@@ -3,13 +3,17 @@ use mathlib.Core.Path.{◌≡◌}
 use native.Mathlib.Omega.{arith}
 use lib.ListN.{take}
 use lib.Seq.{take_all}
-use borrow.Author.Rules.{rules}
 use Rattle.gather.proofs.gather.Goals as goal
 
 pub up_to-requires : goal.up_to-requires
 up_to-requires c =
     let all : take 7 c.args.axes ≡ c.args.axes = take_all 7 c.args.axes (omega arith) in
-    ((omega arith, omega arith), ((c.requires.b_bound, omega arith), rw all c.requires.1))
+    record {
+      le_k = (omega arith, omega arith);
+      b_bound = (c.requires.b_bound, omega arith);
+      inside = rw all c.requires.inside;
+      axes_in_bounds = rw all c.requires.axes_in_bounds;
+    }
 
 pub returns : goal.returns
 returns c =

@@ -20,12 +20,12 @@ pub returns-then-y-lt2 : goal.returns-then-y-lt2
 returns-then-y-lt2 c = never
 
 pub returns-then-y-eq0 : goal.returns-then-y-eq0
-returns-then-y-eq0 c =
+returns-then-y-eq0 c e =
     let a = c.args in
     record { some = omega arith; narrow = omega arith; beside = upwards (eqb-true a.y.up a.b e) (omega arith) }
 
 pub returns-then-y-eq0-2 : goal.returns-then-y-eq0-2
-returns-then-y-eq0-2 c =
+returns-then-y-eq0-2 c e =
     let a = c.args in
     record { some = omega arith; narrow = omega arith; beside = downwards (omega arith) (eqb-true a.y.down a.b e) }
 

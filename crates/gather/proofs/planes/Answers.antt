@@ -1,13 +1,11 @@
 -- `planes` meets its contract: each turn lays one plane more.
 use mathlib.Core.Path.{◌≡◌, refl, ap, ◌∙◌}
 use mathlib.Core.List.{List, [], ◌∷◌}
-use Prim.Native.Nat.{ℕ, ◌+◌, ◌-◌, ◌*◌, ◌≤◌}
+use Prim.Native.Nat.{ℕ, ◌+◌, ◌-◌, ◌*◌}
 use native.Mathlib.Nat.{mul-le-mul_left}
 use native.Mathlib.Omega.{arith}
-use lib.ListN.{length}
-use borrow.Author.Rules.{rules}
 use Rattle.gather_row.specs.Gather.{reach, gathered}
-use Rattle.gather.specs.Rows.{laid, stacked}
+use Rattle.gather.specs.Rows.{laid}
 use Rattle.gather_row.proofs.Places.{inside_from}
 use Rattle.gather.proofs.Laid.{stacked_start, stacked_next}
 use Rattle.gather.proofs.planes.Goals as goal
@@ -42,7 +40,11 @@ plane-requires c =
     let a = c.args in
     let whole = c.requires.by_index v.k (omega arith) in
     let below = mul-le-mul_left {m = v.k} {n = a.z.length - 1} a.lift (omega arith) in
-    ((c.requires.b_bound.0, omega (arith, v.invariant.4)), rw c.place_of.ensures.0 (whole, omega (arith, v.invariant.3)))
+    record {
+      b_bound = (c.requires.b_bound.0, omega (arith, v.invariant.4));
+      inside = rw c.place_of.ensures.0 whole;
+      b_in_bounds = omega (arith, v.invariant.3);
+    }
 
 pub loop-k-preserved : goal.loop-k-preserved
 loop-k-preserved c =

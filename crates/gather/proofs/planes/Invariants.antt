@@ -1,15 +1,10 @@
 -- `planes` meets its contract: each turn lays one plane more.
-use mathlib.Core.Path.{◌≡◌, refl, ap, ◌∙◌}
-use mathlib.Core.List.{List, [], ◌∷◌}
-use Prim.Native.Nat.{ℕ, ◌+◌, ◌-◌, ◌*◌, ◌≤◌}
-use native.Mathlib.Nat.{mul-le-mul_left}
-use native.Mathlib.Omega.{arith}
+use mathlib.Core.Path.{◌≡◌}
+use mathlib.Core.List.{[], ◌∷◌}
+use Prim.Native.Nat.{◌+◌, ◌-◌, ◌≤◌}
 use lib.ListN.{length}
-use borrow.Author.Rules.{rules}
 use Rattle.gather_row.specs.Gather.{reach, gathered}
-use Rattle.gather.specs.Rows.{laid, stacked}
-use Rattle.gather_row.proofs.Places.{inside_from}
-use Rattle.gather.proofs.Laid.{stacked_start, stacked_next}
+use Rattle.gather.specs.Rows.{stacked}
 use Rattle.gather.proofs.planes.Given as goal
 
 abbrev pub invariant-loop-k : goal.invariant-loop-k

@@ -1,13 +1,11 @@
 -- `rows` meets its contract: each turn lays one row more.
 use mathlib.Core.Path.{◌≡◌, refl, ap}
 use mathlib.Core.List.{[], ◌∷◌}
-use Prim.Native.Nat.{ℕ, ◌+◌, ◌-◌, ◌≤◌}
+use Prim.Native.Nat.{ℕ, ◌+◌, ◌-◌}
 use native.Mathlib.Nat.{mul-le-mul_left}
 use native.Mathlib.Omega.{arith}
 use lib.ListN.{length}
-use borrow.Author.Rules.{rules}
 use Rattle.gather_row.specs.Gather.{reach, gathered}
-use Rattle.gather.specs.Rows.{laid}
 use Rattle.gather_row.proofs.Places.{inside_row, inside_from, length-row}
 use Rattle.gather.proofs.Laid.{laid_start, laid_next}
 use Rattle.gather.proofs.rows.Goals as goal
@@ -43,7 +41,8 @@ row-requires c =
     let row = inside_row a.b (length a.src.now) a.from a.x a.y c.requires.inside v.j (omega arith) in
     let below = mul-le-mul_left {m = v.j} {n = a.y.length - 1} a.pitch (omega arith) in
     let len = length-row a.b a.src.now (a.from + reach a.y v.j) a.x row in
-    rw c.place_of.ensures.0 (c.requires.b_bound, (row, omega (arith, v.invariant.3)))
+    let from = c.place_of.ensures.0 in
+    record { b_bound = c.requires.b_bound; inside = rw from row; axis_in_bounds = rw from (omega (arith, v.invariant.3)) }
 
 pub loop-j-preserved : goal.loop-j-preserved
 loop-j-preserved c =

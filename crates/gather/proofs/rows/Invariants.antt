@@ -1,15 +1,10 @@
 -- `rows` meets its contract: each turn lays one row more.
-use mathlib.Core.Path.{◌≡◌, refl, ap}
+use mathlib.Core.Path.{◌≡◌}
 use mathlib.Core.List.{[], ◌∷◌}
-use Prim.Native.Nat.{ℕ, ◌+◌, ◌-◌, ◌≤◌}
-use native.Mathlib.Nat.{mul-le-mul_left}
-use native.Mathlib.Omega.{arith}
+use Prim.Native.Nat.{◌+◌, ◌-◌, ◌≤◌}
 use lib.ListN.{length}
-use borrow.Author.Rules.{rules}
 use Rattle.gather_row.specs.Gather.{reach, gathered}
 use Rattle.gather.specs.Rows.{laid}
-use Rattle.gather_row.proofs.Places.{inside_row, inside_from, length-row}
-use Rattle.gather.proofs.Laid.{laid_start, laid_next}
 use Rattle.gather.proofs.rows.Given as goal
 
 abbrev pub invariant-loop-j : goal.invariant-loop-j

@@ -4,7 +4,6 @@ use Prim.Native.Nat.{◌*◌, ◌≤◌}
 use native.Mathlib.Nat.{mul-le-mul}
 use native.Mathlib.Omega.{arith}
 use lib.ListN.{length}
-use borrow.Author.Rules.{rules}
 use Rattle.gather_row.proofs.Places.{length-row}
 use Rattle.gather.proofs.Laid.{laid_same}
 use Rattle.gather.proofs.Runs.{inside_run, inside_tile, row_by_tile}

@@ -1,17 +1,10 @@
 -- `tiles` meets its contract: each turn lays the rows of one tile more.
-use mathlib.Core.Path.{◌≡◌, refl, ap, ◌∙◌}
+use mathlib.Core.Path.{◌≡◌}
 use mathlib.Core.List.{[], ◌∷◌}
-use Prim.Native.Nat.{ℕ, ◌+◌, ◌-◌, ◌*◌, ◌/◌, ◌≤◌, ◌<◌}
-use native.Mathlib.Nat.{mul-le-mul_left, mul-add}
-use native.Mathlib.Omega.{arith}
+use Prim.Native.Nat.{◌+◌, ◌-◌, ◌/◌, ◌≤◌}
 use lib.ListN.{length}
-use borrow.Author.Rules.{rules}
 use Rattle.gather_row.specs.Gather.{reach, gathered}
 use Rattle.gather.specs.Rows.{laid}
-use Rattle.gather_row.proofs.Places.{inside_from}
-use Rattle.gather.proofs.Laid.{laid_start, laid_same, laid_more}
-use Rattle.gather_row.proofs.Lines.{part_of, reach_part}
-use Rattle.gather.proofs.Runs.{cut}
 use Rattle.gather.proofs.tiles.Given as goal
 
 abbrev pub invariant-loop-j : goal.invariant-loop-j

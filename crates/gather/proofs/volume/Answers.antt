@@ -1,7 +1,6 @@
 -- `volume` meets its contract: in either order all the rows are laid.
 use mathlib.Core.Path.{◌∙◌}
 use native.Mathlib.Omega.{arith}
-use borrow.Author.Rules.{rules}
 use Rattle.gather.proofs.Order.{whole_length, sizes, inside_plane, inside_across, in_order_lem, across}
 use Rattle.gather.proofs.volume.Goals as goal
 
