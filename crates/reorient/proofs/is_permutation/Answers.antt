@@ -2,7 +2,6 @@
 use mathlib.Core.Path.{◌≡◌, sym, ◌∙◌}
 use mathlib.Core.Bool.{true, false}
 use Rattle.reorient.specs.Reorient.{named}
-use borrow.Author.Rules.{rules}
 use Rattle.reorient.proofs.is_permutation.Goals as goal
 
 pub returns-then-names-2 : goal.returns-then-names-2

@@ -2,7 +2,6 @@
 use native.Mathlib.Omega.{arith}
 use Rattle.reorient.specs.Reorient.{permuted, no_axis}
 use Rattle.reorient.proofs.Axes.{From1To3, bounds, last_four}
-use borrow.Author.Rules.{rules}
 use Rattle.reorient.proofs.new_axes.Goals as goal
 
 pub overflow_sub-i : goal.overflow_sub-i

@@ -1,13 +1,10 @@
 -- `old_axes` meets its contract: the axes so far, and those that are left.
-use mathlib.Core.Path.{◌≡◌, refl, ap, ◌∙◌}
+use mathlib.Core.Path.{◌≡◌}
 use mathlib.Core.List.{◌++◌}
-use Prim.Native.Nat.{◌+◌, ◌-◌, ◌*◌, ◌≤◌, ◌<◌}
-use native.Mathlib.Omega.{arith}
-use lib.ListN.{length, take, drop, get_or, length-set}
-use borrow.Author.Rules.{rules}
+use Prim.Native.Nat.{◌-◌, ◌*◌, ◌≤◌, ◌<◌}
+use lib.ListN.{length, take, drop}
 use Rattle.grid.specs.Grid.{voxels}
-use Rattle.reorient.specs.Reorient.{reversals, axis_of, old_axes}
-use Rattle.reorient.proofs.Axes.{step_next, axes_next, axes_done}
+use Rattle.reorient.specs.Reorient.{reversals, old_axes}
 use Rattle.reorient.proofs.old_axes.Given as goal
 
 abbrev pub invariant-loop-k : goal.invariant-loop-k

@@ -4,7 +4,6 @@ use mathlib.Core.Bool.{false}
 use native.Mathlib.Omega.{arith}
 use lib.ListN.{get_or-eq_default}
 use Rattle.reorient.specs.Reorient.{reversals}
-use borrow.Author.Rules.{rules}
 use Rattle.reorient.proofs.reversed_at.Goals as goal
 
 pub returns : goal.returns
