@@ -1,6 +1,5 @@
 -- `are_finite` meets its contract: each of the four is asked.
 use mathlib.Core.Bool.{◌&&◌}
-use borrow.Author.Rules.{rules}
 use Rattle.reorient_rows.proofs.are_finite.Goals as goal
 
 pub returns : goal.returns

@@ -1,5 +1,4 @@
 -- `facing_to` meets its contract: a reversed axis is negated.
-use borrow.Author.Rules.{rules}
 use Rattle.reorient_rows.proofs.facing_to.Goals as goal
 
 pub returns-then-reversed : goal.returns-then-reversed

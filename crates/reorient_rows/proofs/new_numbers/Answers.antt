@@ -1,7 +1,6 @@
 -- `new_numbers` meets its contract: the axes of a permutation are 1 to 3, and the numbers are made by proofs/Laws.antt.
 use Rattle.reorient.proofs.Axes.{bounds}
 use Rattle.reorient_rows.proofs.Laws.{numbers_made}
-use borrow.Author.Rules.{rules}
 use Rattle.reorient_rows.proofs.new_numbers.Goals as goal
 
 pub column_of-requires : goal.column_of-requires

@@ -1,6 +1,5 @@
 -- `numbers_of` meets its contract: a finite row has no NaN.
 use Rattle.affine.proofs.Finite.{finite_row_lem}
-use borrow.Author.Rules.{rules}
 use Rattle.reorient_rows.proofs.numbers_of.Goals as goal
 
 pub float_from_bits-a : goal.float_from_bits-a

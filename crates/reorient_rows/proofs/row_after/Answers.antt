@@ -11,32 +11,32 @@ pub float_to_bits-result : goal.float_to_bits-result
 unfolding finite_after
 float_to_bits-result c =
     let all : let v = c.numbers_of-v.result in AllFinite v.first v.second v.third v.shift =
-        let v = c.numbers_of-v.result in
-        all_finite v.first v.second v.third v.shift (ap are_finite c.numbers_of-v.ensures ∙ c.requires.row_value) in
+    let v = c.numbers_of-v.result in
+    all_finite v.first v.second v.third v.shift (ap are_finite c.numbers_of-v.ensures ∙ c.requires.row_value) in
     all.first
 
 pub float_to_bits-result-2 : goal.float_to_bits-result-2
 unfolding finite_after
 float_to_bits-result-2 c =
     let all : let v = c.numbers_of-v.result in AllFinite v.first v.second v.third v.shift =
-        let v = c.numbers_of-v.result in
-        all_finite v.first v.second v.third v.shift (ap are_finite c.numbers_of-v.ensures ∙ c.requires.row_value) in
+    let v = c.numbers_of-v.result in
+    all_finite v.first v.second v.third v.shift (ap are_finite c.numbers_of-v.ensures ∙ c.requires.row_value) in
     all.second
 
 pub float_to_bits-result-3 : goal.float_to_bits-result-3
 unfolding finite_after
 float_to_bits-result-3 c =
     let all : let v = c.numbers_of-v.result in AllFinite v.first v.second v.third v.shift =
-        let v = c.numbers_of-v.result in
-        all_finite v.first v.second v.third v.shift (ap are_finite c.numbers_of-v.ensures ∙ c.requires.row_value) in
+    let v = c.numbers_of-v.result in
+    all_finite v.first v.second v.third v.shift (ap are_finite c.numbers_of-v.ensures ∙ c.requires.row_value) in
     all.third
 
 pub float_to_bits-result-4 : goal.float_to_bits-result-4
 unfolding finite_after
 float_to_bits-result-4 c =
     let all : let v = c.numbers_of-v.result in AllFinite v.first v.second v.third v.shift =
-        let v = c.numbers_of-v.result in
-        all_finite v.first v.second v.third v.shift (ap are_finite c.numbers_of-v.ensures ∙ c.requires.row_value) in
+    let v = c.numbers_of-v.result in
+    all_finite v.first v.second v.third v.shift (ap are_finite c.numbers_of-v.ensures ∙ c.requires.row_value) in
     all.shift
 
 pub returns : goal.returns

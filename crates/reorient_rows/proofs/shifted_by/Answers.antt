@@ -1,5 +1,4 @@
 -- `shifted_by` meets its contract: a reversed axis adds its column, as often as its last index.
-use borrow.Author.Rules.{rules}
 use Rattle.reorient_rows.proofs.shifted_by.Goals as goal
 
 pub returns-then-reversed : goal.returns-then-reversed

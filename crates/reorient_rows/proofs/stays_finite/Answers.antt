@@ -2,7 +2,6 @@
 use mathlib.Core.Path.{sym, ap, ◌∙◌}
 use Rattle.reorient_rows.specs.Rows.{are_finite, finite_after}
 use Rattle.reorient_rows.proofs.Laws.{never_finite}
-use borrow.Author.Rules.{rules}
 use Rattle.reorient_rows.proofs.stays_finite.Goals as goal
 
 pub numbers_of-requires : goal.numbers_of-requires
