@@ -12,7 +12,6 @@ use mir.ValLaws.{to_z-of_z}
 use Rattle.reorient.proofs.Axes.{bounds}
 use Rattle.reorient_header.specs.After.{entries_after}
 use Rattle.reorient_header.proofs.Made.{entries}
-use borrow.Author.Rules.{rules}
 use Rattle.reorient_header.proofs.dims_after.Goals as goal
 
 -- a number of an array of signed numbers fits its width

@@ -1,6 +1,5 @@
 -- `header_after` meets its contract: the parts are as each call says.
 use Rattle.reorient_header.specs.After.{header_after}
-use borrow.Author.Rules.{rules}
 use Rattle.reorient_header.proofs.header_after.Goals as goal
 
 pub returns : goal.returns

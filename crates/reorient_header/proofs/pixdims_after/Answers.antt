@@ -7,7 +7,6 @@ use lib.ListN.{get_or}
 use Rattle.reorient.proofs.Axes.{bounds}
 use Rattle.reorient_header.specs.After.{entries_after}
 use Rattle.reorient_header.proofs.Made.{entries}
-use borrow.Author.Rules.{rules}
 use Rattle.reorient_header.proofs.pixdims_after.Goals as goal
 
 pub offset_bounds-pixdim-first : goal.offset_bounds-pixdim-first

@@ -1,6 +1,5 @@
 -- `stay_finite` meets its contract: each row by the lengths that were read, by the laws of proofs/Made.antt.
 use Rattle.reorient_header.proofs.Made.{rows_finite}
-use borrow.Author.Rules.{rules}
 use Rattle.reorient_header.proofs.stay_finite.Goals as goal
 
 pub returns : goal.returns
