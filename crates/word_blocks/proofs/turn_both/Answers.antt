@@ -3,7 +3,6 @@ use Prim.Native.Nat.{◌/◌}
 use native.Mathlib.Omega.{arith}
 use Rattle.word_blocks.proofs.Stored.{turned_join}
 use Rattle.word_blocks.proofs.Blocks.{wide_sixteen, wide_twice}
-use borrow.Author.Rules.{rules}
 use Rattle.word_blocks.proofs.turn_both.Goals as goal
 
 pub returns : goal.returns

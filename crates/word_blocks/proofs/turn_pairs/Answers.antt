@@ -8,83 +8,88 @@ use Rattle.byte_pairs.specs.Pairs.{pair_bytes}
 use Rattle.byte_pairs.proofs.Pairs.{four, length_four}
 use Rattle.word_blocks.proofs.Stored.{two_stored}
 use Rattle.word_blocks.proofs.Blocks.{part_at, pairs_fours, pairs_eights, pairs_sixteens, wide_other}
-use borrow.Author.Rules.{rules}
 use Rattle.word_blocks.proofs.turn_pairs.Goals as goal
+use Rattle.word_blocks.proofs.turn_pairs.Goals.{After-turned_at-h}
+
+-- the eight pairs, as they were loaded and turned round
+module _ (p : After-turned_at-h) where
+  abbrev at : ℕ
+  at = p.args.at
+
+  abbrev s : List ℕ
+  s = p.args.buf.now
+
+  first : pair_bytes p.turned_at-a.result ≡ reverse (take 2 (drop 0 (drop at s)))
+  first = part_at s at p.requires.1 2 0 (rw (add-zero at) p.turned_at-a.ensures)
+
+  second : pair_bytes p.turned_at-b.result ≡ reverse (take 2 (drop 2 (drop at s)))
+  second = part_at s at p.requires.1 2 2 p.turned_at-b.ensures
+
+  third : pair_bytes p.turned_at-c.result ≡ reverse (take 2 (drop 4 (drop at s)))
+  third = part_at s at p.requires.1 2 4 p.turned_at-c.ensures
+
+  fourth : pair_bytes p.turned_at-d.result ≡ reverse (take 2 (drop 6 (drop at s)))
+  fourth = part_at s at p.requires.1 2 6 p.turned_at-d.ensures
+
+  fifth : pair_bytes p.turned_at-e.result ≡ reverse (take 2 (drop 8 (drop at s)))
+  fifth = part_at s at p.requires.1 2 8 p.turned_at-e.ensures
+
+  sixth : pair_bytes p.turned_at-f.result ≡ reverse (take 2 (drop 10 (drop at s)))
+  sixth = part_at s at p.requires.1 2 10 p.turned_at-f.ensures
+
+  seventh : pair_bytes p.turned_at-g.result ≡ reverse (take 2 (drop 12 (drop at s)))
+  seventh = part_at s at p.requires.1 2 12 p.turned_at-g.ensures
+
+  eighth : pair_bytes p.turned_at-h.result ≡ reverse (take 2 (drop 14 (drop at s)))
+  eighth = part_at s at p.requires.1 2 14 p.turned_at-h.ensures
 
 pub returns-in-4 : goal.returns-in-4
-returns-in-4 c =
-    let at = c.args.at in
-    let s = c.args.buf.now in
-    let a = c.turned_at.result in
-    let b = c.turned-at2.result in
-    let c = c.turned-at3.result in
-    let d = c.turned-at4.result in
-    let e = c.turned-at5.result in
-    let f = c.turned-at6.result in
-    let g = c.turned-at7.result in
-    let h = c.turned_at-h.result in
-    let first : pair_bytes a ≡ reverse (take 2 (drop 0 (drop at s))) = part_at s at c.pre.1 2 0 (rw (add-zero at) c.turned_at.ensures) in
-    let second : pair_bytes b ≡ reverse (take 2 (drop 2 (drop at s))) = part_at s at c.pre.1 2 2 c.turned-at2.ensures in
-    let third : pair_bytes c ≡ reverse (take 2 (drop 4 (drop at s))) = part_at s at c.pre.1 2 4 c.turned-at3.ensures in
-    let fourth : pair_bytes d ≡ reverse (take 2 (drop 6 (drop at s))) = part_at s at c.pre.1 2 6 c.turned-at4.ensures in
-    let fifth : pair_bytes e ≡ reverse (take 2 (drop 8 (drop at s))) = part_at s at c.pre.1 2 8 c.turned-at5.ensures in
-    let sixth : pair_bytes f ≡ reverse (take 2 (drop 10 (drop at s))) = part_at s at c.pre.1 2 10 c.turned-at6.ensures in
-    let seventh : pair_bytes g ≡ reverse (take 2 (drop 12 (drop at s))) = part_at s at c.pre.1 2 12 c.turned-at7.ensures in
-    let eighth : pair_bytes h ≡ reverse (take 2 (drop 14 (drop at s))) = part_at s at c.pre.1 2 14 c.turned_at-h.ensures in
+returns-in-4 end =
+    let p = (goal.at.returns-in-4 end).After-turned_at-h in
+    let a = p.turned_at-a.result in
+    let b = p.turned_at-b.result in
+    let c = p.turned_at-c.result in
+    let d = p.turned_at-d.result in
+    let e = p.turned_at-e.result in
+    let f = p.turned_at-f.result in
+    let g = p.turned_at-g.result in
+    let h = p.turned_at-h.result in
     let stored =
-    two_stored at 8 (four b a d c) (four f e h g) s c.put_four.new.buf c.put_four-in-4.new.buf
-    (length_four b a d c) c.put_four.ensures c.put_four-in-4.ensures in
-    rw c.in-4.is
-    (stored ∙ pairs_fours s at c.requires.1 first second third fourth fifth sixth seventh eighth)
+    two_stored (at p) 8 (four b a d c) (four f e h g) (s p) end.put_four.new.buf end.put_four-in-4.new.buf
+    (length_four b a d c) end.put_four.ensures end.put_four-in-4.ensures in
+    rw end.in-4.is
+    (stored ∙ pairs_fours (s p) (at p) p.requires.1 (first p) (second p) (third p) (fourth p) (fifth p) (sixth p) (seventh p) (eighth p))
 
 pub returns-in-8 : goal.returns-in-8
-returns-in-8 c =
-    let at = c.args.at in
-    let s = c.args.buf.now in
-    let a = c.turned_at.result in
-    let b = c.turned-at2.result in
-    let c = c.turned-at3.result in
-    let d = c.turned-at4.result in
-    let e = c.turned-at5.result in
-    let f = c.turned-at6.result in
-    let g = c.turned-at7.result in
-    let h = c.turned_at-h.result in
-    let first : pair_bytes a ≡ reverse (take 2 (drop 0 (drop at s))) = part_at s at c.pre.1 2 0 (rw (add-zero at) c.turned_at.ensures) in
-    let second : pair_bytes b ≡ reverse (take 2 (drop 2 (drop at s))) = part_at s at c.pre.1 2 2 c.turned-at2.ensures in
-    let third : pair_bytes c ≡ reverse (take 2 (drop 4 (drop at s))) = part_at s at c.pre.1 2 4 c.turned-at3.ensures in
-    let fourth : pair_bytes d ≡ reverse (take 2 (drop 6 (drop at s))) = part_at s at c.pre.1 2 6 c.turned-at4.ensures in
-    let fifth : pair_bytes e ≡ reverse (take 2 (drop 8 (drop at s))) = part_at s at c.pre.1 2 8 c.turned-at5.ensures in
-    let sixth : pair_bytes f ≡ reverse (take 2 (drop 10 (drop at s))) = part_at s at c.pre.1 2 10 c.turned-at6.ensures in
-    let seventh : pair_bytes g ≡ reverse (take 2 (drop 12 (drop at s))) = part_at s at c.pre.1 2 12 c.turned-at7.ensures in
-    let eighth : pair_bytes h ≡ reverse (take 2 (drop 14 (drop at s))) = part_at s at c.pre.1 2 14 c.turned_at-h.ensures in
+returns-in-8 end =
+    let p = (goal.at.returns-in-8 end).After-turned_at-h in
+    let a = p.turned_at-a.result in
+    let b = p.turned_at-b.result in
+    let c = p.turned_at-c.result in
+    let d = p.turned_at-d.result in
+    let e = p.turned_at-e.result in
+    let f = p.turned_at-f.result in
+    let g = p.turned_at-g.result in
+    let h = p.turned_at-h.result in
     let stored =
-    two_stored at 8 (four d c b a) (four h g f e) s c.put_four-in-8.new.buf c.put_four-in-8-2.new.buf
-    (length_four d c b a) c.put_four-in-8.ensures c.put_four-in-8-2.ensures in
-    rw c.in-8.is
-    (stored ∙ pairs_eights s at c.requires.1 first second third fourth fifth sixth seventh eighth)
+    two_stored (at p) 8 (four d c b a) (four h g f e) (s p) end.put_four-in-8.new.buf end.put_four-in-8-2.new.buf
+    (length_four d c b a) end.put_four-in-8.ensures end.put_four-in-8-2.ensures in
+    rw end.in-8.is
+    (stored ∙ pairs_eights (s p) (at p) p.requires.1 (first p) (second p) (third p) (fourth p) (fifth p) (sixth p) (seventh p) (eighth p))
 
 pub returns-in_default : goal.returns-in_default
-returns-in_default c =
-    let at = c.args.at in
-    let s = c.args.buf.now in
-    let a = c.turned_at.result in
-    let b = c.turned-at2.result in
-    let c = c.turned-at3.result in
-    let d = c.turned-at4.result in
-    let e = c.turned-at5.result in
-    let f = c.turned-at6.result in
-    let g = c.turned-at7.result in
-    let h = c.turned_at-h.result in
-    let first : pair_bytes a ≡ reverse (take 2 (drop 0 (drop at s))) = part_at s at c.pre.1 2 0 (rw (add-zero at) c.turned_at.ensures) in
-    let second : pair_bytes b ≡ reverse (take 2 (drop 2 (drop at s))) = part_at s at c.pre.1 2 2 c.turned-at2.ensures in
-    let third : pair_bytes c ≡ reverse (take 2 (drop 4 (drop at s))) = part_at s at c.pre.1 2 4 c.turned-at3.ensures in
-    let fourth : pair_bytes d ≡ reverse (take 2 (drop 6 (drop at s))) = part_at s at c.pre.1 2 6 c.turned-at4.ensures in
-    let fifth : pair_bytes e ≡ reverse (take 2 (drop 8 (drop at s))) = part_at s at c.pre.1 2 8 c.turned-at5.ensures in
-    let sixth : pair_bytes f ≡ reverse (take 2 (drop 10 (drop at s))) = part_at s at c.pre.1 2 10 c.turned-at6.ensures in
-    let seventh : pair_bytes g ≡ reverse (take 2 (drop 12 (drop at s))) = part_at s at c.pre.1 2 12 c.turned-at7.ensures in
-    let eighth : pair_bytes h ≡ reverse (take 2 (drop 14 (drop at s))) = part_at s at c.pre.1 2 14 c.turned_at-h.ensures in
+returns-in_default end =
+    let p = (goal.at.returns-in_default end).After-turned_at-h in
+    let a = p.turned_at-a.result in
+    let b = p.turned_at-b.result in
+    let c = p.turned_at-c.result in
+    let d = p.turned_at-d.result in
+    let e = p.turned_at-e.result in
+    let f = p.turned_at-f.result in
+    let g = p.turned_at-g.result in
+    let h = p.turned_at-h.result in
     let stored =
-    two_stored at 8 (four h g f e) (four d c b a) s c.put_four-in_default.new.buf c.put_four-in_default-2.new.buf
-    (length_four h g f e) c.put_four-in_default.ensures c.put_four-in_default-2.ensures in
-    rw (wide_other c.requires.0 c.in_default.in_default-own.rest.0.1 c.in_default.in_default-own.rest.1)
-    (stored ∙ pairs_sixteens s at c.requires.1 first second third fourth fifth sixth seventh eighth)
+    two_stored (at p) 8 (four h g f e) (four d c b a) (s p) end.put_four-in_default.new.buf end.put_four-in_default-2.new.buf
+    (length_four h g f e) end.put_four-in_default.ensures end.put_four-in_default-2.ensures in
+    rw (wide_other end.requires.0 end.in_default.in_default-own.rest.0.1 end.in_default.in_default-own.rest.1)
+    (stored ∙ pairs_sixteens (s p) (at p) p.requires.1 (first p) (second p) (third p) (fourth p) (fifth p) (sixth p) (seventh p) (eighth p))

@@ -2,7 +2,6 @@
 use mathlib.Core.Path.{refl}
 use Rattle.words.specs.Words.{twos, fours, eight}
 use Rattle.word_blocks.proofs.Words.{word_turned}
-use borrow.Author.Rules.{rules}
 use Rattle.word_blocks.proofs.turn_twos.Goals as goal
 
 pub turned-requires : goal.turned-requires

@@ -3,7 +3,6 @@ use Prim.Native.Nat.{◌/◌}
 use native.Mathlib.Omega.{arith}
 use Rattle.word_blocks.proofs.Stored.{turned_join}
 use Rattle.word_blocks.proofs.Blocks.{wide_thirty_two, wide_twice_again}
-use borrow.Author.Rules.{rules}
 use Rattle.word_blocks.proofs.turn_wide.Goals as goal
 
 pub returns : goal.returns

@@ -1,6 +1,5 @@
 -- `turn_many` meets its contract: each arm is what its call ensures, at the width that the arm's number says.
 use Rattle.word_blocks.specs.Blocks.{fours, eights, sixteens}
-use borrow.Author.Rules.{rules}
 use Rattle.word_turns.proofs.turn_many.Goals as goal
 
 pub turn_twos-requires : goal.turn_twos-requires

@@ -2,9 +2,8 @@
 use Prim.Native.Nat.{◌+◌, ◌*◌}
 use native.Mathlib.Nat.{div-mul-le_self}
 use native.Mathlib.Omega.{arith}
-use mathlib.Core.Path.{refl, ◌∙◌}
-use borrow.Author.Rules.{rules}
-use Rattle.word_turns.proofs.Blocks.{Left, left_all, left_next, left_rest}
+use mathlib.Core.Path.{refl}
+use Rattle.word_turns.proofs.Blocks.{left_all, left_next, left_rest}
 use Rattle.word_turns.proofs.turn_twos.Goals as goal
 
 pub loop-left-init : goal.loop-left-init

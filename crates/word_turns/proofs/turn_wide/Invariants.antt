@@ -1,10 +1,5 @@
 -- `turn_wide` meets its contract: a loop over blocks of sixty-four bytes (proofs/Blocks.antt).
-use Prim.Native.Nat.{◌+◌, ◌*◌, ◌/◌}
-use native.Mathlib.Nat.{div-mul-le_self}
-use native.Mathlib.Omega.{arith}
-use mathlib.Core.Path.{◌∙◌}
-use borrow.Author.Rules.{rules}
-use Rattle.word_turns.proofs.Blocks.{Left, left_all, left_next, left_rest, wide_positive, wide_fills}
+use Rattle.word_turns.proofs.Blocks.{Left}
 use Rattle.word_turns.proofs.turn_wide.Given as goal
 
 abbrev pub invariant-loop-left : goal.invariant-loop-left
