@@ -213,7 +213,7 @@ returns c =
     let lowest : ℕ = bytes_before a.v.sizes.steps (with_number a.axis a.index 0) in
     let first : a.before - number_of * step_of ≡ lowest = omega (arith, past.0) in
     (λ i. Along (record {
-      c = a.v.offset + first i;
+      from = a.v.offset + first i;
       axis = record { length = c.axis_length-count.ensures.0 i; up = c.of_axis-step.ensures i; down = 0 };
       bytes = first_step a.v;
     }))

@@ -8,7 +8,7 @@ use borrow.Author.Rules.{rules}
 use Rattle.pieces.proofs.is_skipped.Goals as goal
 
 pub returns-then-taken-lt352 : goal.returns-then-taken-lt352
-returns-then-taken-lt352 c = rw (lt-leb front_length c.args.true c.if-taken-lt352.true)
+returns-then-taken-lt352 c = rw (lt-leb front_length c.args.taken c.if-taken-lt352.true)
 
 pub returns : goal.returns
 returns c =

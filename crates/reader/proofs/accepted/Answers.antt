@@ -10,7 +10,7 @@ use Rattle.reader.proofs.accepted.Goals as goal
 -- the record's fields are the file's
 pub complete-requires : goal.complete-requires
 unfolding header_of shape_in
-complete-requires c = rw c.parse.ensures c.requires
+complete-requires c = record { measured = rw c.parse.ensures c.requires.measured; header_value = rw c.parse.ensures c.requires.file_value }
 
 pub returns : goal.returns
 returns c =
