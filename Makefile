@@ -6,20 +6,20 @@ SHELL := /bin/bash
 .PHONY: library check demo fuzz bench
 
 library:
-	@rt staticlib vestumbral 2>&1 | tail -n 1
+	@tools/build.sh vestumbral
 
-# rt ci proves every crate, tries the must-fail edits and runs the programs. It removes target/ first, so its output is kept
-# elsewhere until it ends. Then come the tests that stand outside it. Its own last line is held back and printed as the last of all.
+# rt ci proves every crate, tries the must-fail edits and runs the programs; an edit that can't be applied fails here too. Then come the
+# tests that stand outside it. Its own last line is held back and printed as the last of all.
 check:
 	@log=$$(mktemp)
 	trap 'rm -f "$$log"' EXIT
 	rt ci 2>&1 | tee "$$log" | sed -u '$$d' || { tail -n 1 "$$log"; exit 1; }
-	cp "$$log" target/ci.log
+	! grep -E '^rt: ok.*, [1-9][0-9]* bad' "$$log" || exit 1
 	tests/run.sh
-	tail -n 1 target/ci.log | grep -Ex '[0-9]+ passed, 0 failed'
+	tail -n 1 "$$log" | grep -Ex '[0-9]+ passed, 0 failed.*'
 
 demo: library
-	@rt check nifti_list 2>&1 | tail -n 1
+	@tools/build.sh nifti_list
 	python3 tests/nifti.py >target/file_a.nii
 	echo "file A, $$(wc -c <target/file_a.nii) bytes:"
 	target/bin/nifti_list <target/file_a.nii
