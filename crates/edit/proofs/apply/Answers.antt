@@ -27,8 +27,8 @@ splice-length-requires c =
         let a = c.args in
         planned_of (take a.len a.buf.now) (length a.buf.now) a.change a.code a.payload.now in
     let planned-at : c.plan_edit-planned.result ≡ planned-of =
-        rw (to_z-of_z w32 c.args.code s.fits.code, sub-zero) at c.plan_edit-planned.ensures in
-    rw (to_z-of_z w32 c.args.code s.fits.code)
+        rw (to_z-of_z w32 c.args.code c.ranges.code, sub-zero) at c.plan_edit-planned.ensures in
+    rw (to_z-of_z w32 c.args.code c.ranges.code)
     (c.if-buf-len.false, sym planned-at ∙ c.in-Go.is)
 
 pub returns-in-Stop : goal.returns-in-Stop
@@ -37,7 +37,7 @@ returns-in-Stop c =
         let a = c.args in
         planned_of (take a.len a.buf.now) (length a.buf.now) a.change a.code a.payload.now in
     let planned-at : c.plan_edit-planned.result ≡ planned-of =
-        rw (to_z-of_z w32 c.args.code s.fits.code, sub-zero) at c.plan_edit-planned.ensures in
+        rw (to_z-of_z w32 c.args.code c.ranges.code, sub-zero) at c.plan_edit-planned.ensures in
     let a = c.args in
     let e = outcome_stop a.buf.now a.len a.change a.code a.payload.now c.if-buf-len.false c.in-Stop.r
     (sym planned-at ∙ c.in-Stop.is) in
@@ -49,14 +49,14 @@ returns-in-Go c =
         let a = c.args in
         planned_of (take a.len a.buf.now) (length a.buf.now) a.change a.code a.payload.now in
     let planned-at : c.plan_edit-planned.result ≡ planned-of =
-        rw (to_z-of_z w32 c.args.code s.fits.code, sub-zero) at c.plan_edit-planned.ensures in
+        rw (to_z-of_z w32 c.args.code c.ranges.code, sub-zero) at c.plan_edit-planned.ensures in
     let a = c.args in
     let e = outcome_go a.buf.now a.len a.change a.code a.payload.now c.if-buf-len.false c.in-Go.x
     (sym planned-at ∙ c.in-Go.is) in
-    let r = rw (to_z-of_z w32 a.code s.fits.code) at c.splice-length.ensures in
+    let r = rw (to_z-of_z w32 a.code c.ranges.code) at c.splice-length.ensures in
     let f = take a.len a.buf.now in
     let go = planned f (length a.buf.now) a.change a.code a.payload.now c.in-Go.x (sym planned-at ∙ c.in-Go.is) in
     let x =
     sym (ap (λ (y : Plan). y.aligned) go.1)
-    ∙ plan_aligned f (length a.buf.now) a.change a.code a.payload.now s.fits.code go.0 in
+    ∙ plan_aligned f (length a.buf.now) a.change a.code a.payload.now c.ranges.code go.0 in
     rw e ((λ i. Done (record { length = r.0 i; aligned = x i })), r.1)

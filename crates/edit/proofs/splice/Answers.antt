@@ -179,9 +179,9 @@ returns c =
     let sizes-at : Sizes buffer-at len-at change-at code_at payload-at plan-at =
         sizes buffer-at len-at change-at code_at payload-at plan-at c.requires.0 allowed_at carries-at in
     let w = c.greater-whole.ensures in
-    let q = to_z-of_z w32 c.args.code s.fits.code in (
+    let q = to_z-of_z w32 c.args.code c.ranges.code in (
       rw w (sym sizes-at.result),
       spliced buffer-at len-at change-at code_at payload-at plan-at c.requires.0 allowed_at carries-at
-          s.fits.code c.greater-whole.result c.make_room.last.0 c.put_new.last.0 c.put_extender.new.buf c.put_offset.new.buf w
+          c.ranges.code c.greater-whole.result c.make_room.last.0 c.put_new.last.0 c.put_extender.new.buf c.put_offset.new.buf w
           c.make_room.ensures (rw q at c.put_new.ensures) c.put_extender.ensures c.put_offset.ensures,
     )

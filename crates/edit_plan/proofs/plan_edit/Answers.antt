@@ -22,4 +22,4 @@ returns-in-Hidden c =
 
 pub returns-in-Shown : goal.returns-in-Shown
 returns-in-Shown c =
-    rw (to_z-of_z w32 c.args.code s.fits.code) at c.plan_list.ensures
+    rw (to_z-of_z w32 c.args.code c.ranges.code) at c.plan_list.ensures

@@ -42,7 +42,7 @@ returns-then-offers_negative c =
     let payload-at = c.args.payload.now in
     let missing_at : (t : Bool) → c.is_missing.result ≡ t → missing_in change-at outline-at.count ≡ t = λ t e. sym c.is_missing.ensures ∙ e in
     let negative-at : (t : Bool) → c.offers_negative.result ≡ t → offers_negative change-at code_at ≡ t = λ t e.
-        rw (to_z-of_z w32 c.args.code s.fits.code) at (sym c.offers_negative.ensures ∙ e) in
+        rw (to_z-of_z w32 c.args.code c.ranges.code) at (sym c.offers_negative.ensures ∙ e) in
     c.stop-then-offers_negative.ensures
     ∙ on_19 file-at room_at change-at code_at payload-at outline-at c.requires
     (missing_at _ c.if-is_missing.false) (negative-at _ c.if-offers_negative.true)
@@ -58,7 +58,7 @@ returns-then-enters_bytes c =
     let region-at : c.greater-end.result ≡ max (region_end outline-at.layout.kind outline-at.layout.image (length file-at)) first_place = c.greater-end.ensures ∙ ap (λ (n : ℕ). max n first_place) c.region_end.ensures in
     let missing_at : (t : Bool) → c.is_missing.result ≡ t → missing_in change-at outline-at.count ≡ t = λ t e. sym c.is_missing.ensures ∙ e in
     let negative-at : (t : Bool) → c.offers_negative.result ≡ t → offers_negative change-at code_at ≡ t = λ t e.
-        rw (to_z-of_z w32 c.args.code s.fits.code) at (sym c.offers_negative.ensures ∙ e) in
+        rw (to_z-of_z w32 c.args.code c.ranges.code) at (sym c.offers_negative.ensures ∙ e) in
     let enters-at : (t : Bool) → c.enters_bytes.result ≡ t → enters_bytes change-at outline-at.count (max (region_end outline-at.layout.kind outline-at.layout.image (length file-at)) first_place) ≡ t = λ t e. rw region-at at (sym c.enters_bytes.ensures ∙ e) in
     c.stop-then-enters_bytes.ensures
     ∙ on_20 file-at room_at change-at code_at payload-at outline-at c.requires
@@ -75,7 +75,7 @@ overflow_sub-next c =
     let region-at : c.greater-end.result ≡ max (region_end outline-at.layout.kind outline-at.layout.image (length file-at)) first_place = c.greater-end.ensures ∙ ap (λ (n : ℕ). max n first_place) c.region_end.ensures in
     let missing_at : (t : Bool) → c.is_missing.result ≡ t → missing_in change-at outline-at.count ≡ t = λ t e. sym c.is_missing.ensures ∙ e in
     let negative-at : (t : Bool) → c.offers_negative.result ≡ t → offers_negative change-at code_at ≡ t = λ t e.
-        rw (to_z-of_z w32 c.args.code s.fits.code) at (sym c.offers_negative.ensures ∙ e) in
+        rw (to_z-of_z w32 c.args.code c.ranges.code) at (sym c.offers_negative.ensures ∙ e) in
     let enters-at : (t : Bool) → c.enters_bytes.result ≡ t → enters_bytes change-at outline-at.count (max (region_end outline-at.layout.kind outline-at.layout.image (length file-at)) first_place) ≡ t = λ t e. rw region-at at (sym c.enters_bytes.ensures ∙ e) in
     let past-at : Past file-at change-at code_at =
         past file-at room_at change-at code_at payload-at outline-at c.requires
@@ -104,7 +104,7 @@ overflow_add-next c =
     let region-at : c.greater-end.result ≡ max (region_end outline-at.layout.kind outline-at.layout.image (length file-at)) first_place = c.greater-end.ensures ∙ ap (λ (n : ℕ). max n first_place) c.region_end.ensures in
     let missing_at : (t : Bool) → c.is_missing.result ≡ t → missing_in change-at outline-at.count ≡ t = λ t e. sym c.is_missing.ensures ∙ e in
     let negative-at : (t : Bool) → c.offers_negative.result ≡ t → offers_negative change-at code_at ≡ t = λ t e.
-        rw (to_z-of_z w32 c.args.code s.fits.code) at (sym c.offers_negative.ensures ∙ e) in
+        rw (to_z-of_z w32 c.args.code c.ranges.code) at (sym c.offers_negative.ensures ∙ e) in
     let enters-at : (t : Bool) → c.enters_bytes.result ≡ t → enters_bytes change-at outline-at.count (max (region_end outline-at.layout.kind outline-at.layout.image (length file-at)) first_place) ≡ t = λ t e. rw region-at at (sym c.enters_bytes.ensures ∙ e) in
     let past-at : Past file-at change-at code_at =
         past file-at room_at change-at code_at payload-at outline-at c.requires
@@ -132,7 +132,7 @@ returns-then-is_too_many-next c =
     let region-at : c.greater-end.result ≡ max (region_end outline-at.layout.kind outline-at.layout.image (length file-at)) first_place = c.greater-end.ensures ∙ ap (λ (n : ℕ). max n first_place) c.region_end.ensures in
     let missing_at : (t : Bool) → c.is_missing.result ≡ t → missing_in change-at outline-at.count ≡ t = λ t e. sym c.is_missing.ensures ∙ e in
     let negative-at : (t : Bool) → c.offers_negative.result ≡ t → offers_negative change-at code_at ≡ t = λ t e.
-        rw (to_z-of_z w32 c.args.code s.fits.code) at (sym c.offers_negative.ensures ∙ e) in
+        rw (to_z-of_z w32 c.args.code c.ranges.code) at (sym c.offers_negative.ensures ∙ e) in
     let enters-at : (t : Bool) → c.enters_bytes.result ≡ t → enters_bytes change-at outline-at.count (max (region_end outline-at.layout.kind outline-at.layout.image (length file-at)) first_place) ≡ t = λ t e. rw region-at at (sym c.enters_bytes.ensures ∙ e) in
     let past-at : Past file-at change-at code_at =
         past file-at room_at change-at code_at payload-at outline-at c.requires
@@ -162,7 +162,7 @@ overflow_sub-greater c =
     let region-at : c.greater-end.result ≡ max (region_end outline-at.layout.kind outline-at.layout.image (length file-at)) first_place = c.greater-end.ensures ∙ ap (λ (n : ℕ). max n first_place) c.region_end.ensures in
     let missing_at : (t : Bool) → c.is_missing.result ≡ t → missing_in change-at outline-at.count ≡ t = λ t e. sym c.is_missing.ensures ∙ e in
     let negative-at : (t : Bool) → c.offers_negative.result ≡ t → offers_negative change-at code_at ≡ t = λ t e.
-        rw (to_z-of_z w32 c.args.code s.fits.code) at (sym c.offers_negative.ensures ∙ e) in
+        rw (to_z-of_z w32 c.args.code c.ranges.code) at (sym c.offers_negative.ensures ∙ e) in
     let enters-at : (t : Bool) → c.enters_bytes.result ≡ t → enters_bytes change-at outline-at.count (max (region_end outline-at.layout.kind outline-at.layout.image (length file-at)) first_place) ≡ t = λ t e. rw region-at at (sym c.enters_bytes.ensures ∙ e) in
     let past-at : Past file-at change-at code_at =
         past file-at room_at change-at code_at payload-at outline-at c.requires
@@ -191,7 +191,7 @@ returns-then-room-greater c =
     let region-at : c.greater-end.result ≡ max (region_end outline-at.layout.kind outline-at.layout.image (length file-at)) first_place = c.greater-end.ensures ∙ ap (λ (n : ℕ). max n first_place) c.region_end.ensures in
     let missing_at : (t : Bool) → c.is_missing.result ≡ t → missing_in change-at outline-at.count ≡ t = λ t e. sym c.is_missing.ensures ∙ e in
     let negative-at : (t : Bool) → c.offers_negative.result ≡ t → offers_negative change-at code_at ≡ t = λ t e.
-        rw (to_z-of_z w32 c.args.code s.fits.code) at (sym c.offers_negative.ensures ∙ e) in
+        rw (to_z-of_z w32 c.args.code c.ranges.code) at (sym c.offers_negative.ensures ∙ e) in
     let enters-at : (t : Bool) → c.enters_bytes.result ≡ t → enters_bytes change-at outline-at.count (max (region_end outline-at.layout.kind outline-at.layout.image (length file-at)) first_place) ≡ t = λ t e. rw region-at at (sym c.enters_bytes.ensures ∙ e) in
     let past-at : Past file-at change-at code_at =
         past file-at room_at change-at code_at payload-at outline-at c.requires
@@ -222,7 +222,7 @@ returns c =
     let region-at : c.greater-end.result ≡ max (region_end outline-at.layout.kind outline-at.layout.image (length file-at)) first_place = c.greater-end.ensures ∙ ap (λ (n : ℕ). max n first_place) c.region_end.ensures in
     let missing_at : (t : Bool) → c.is_missing.result ≡ t → missing_in change-at outline-at.count ≡ t = λ t e. sym c.is_missing.ensures ∙ e in
     let negative-at : (t : Bool) → c.offers_negative.result ≡ t → offers_negative change-at code_at ≡ t = λ t e.
-        rw (to_z-of_z w32 c.args.code s.fits.code) at (sym c.offers_negative.ensures ∙ e) in
+        rw (to_z-of_z w32 c.args.code c.ranges.code) at (sym c.offers_negative.ensures ∙ e) in
     let enters-at : (t : Bool) → c.enters_bytes.result ≡ t → enters_bytes change-at outline-at.count (max (region_end outline-at.layout.kind outline-at.layout.image (length file-at)) first_place) ≡ t = λ t e. rw region-at at (sym c.enters_bytes.ensures ∙ e) in
     let past-at : Past file-at change-at code_at =
         past file-at room_at change-at code_at payload-at outline-at c.requires

@@ -20,7 +20,7 @@ returns-then-not-are_same c =
         rw same at c.sizes_in.ensures
         ∙ measured_sizes (shape_of_record h) c.requires.measured in
         ap not (c.are_same.ensures ∙ ap (same_sizes h.sizes) right) in
-    rw (sym sizes-are ∙ c.if-not-are_same.true)
+    rw (sym sizes-are ∙ ap not c.if-not-are_same.true)
 
 pub returns : goal.returns
 returns c =
@@ -32,5 +32,5 @@ returns c =
         rw same at c.sizes_in.ensures
         ∙ measured_sizes (shape_of_record h) c.requires.measured in
         ap not (c.are_same.ensures ∙ ap (same_sizes h.sizes) right) in
-    rw (sym sizes-are ∙ c.if-not-are_same.false)
+    rw (sym sizes-are ∙ ap not c.if-not-are_same.false)
     (ap (λ (a : Bool). not (beq c.args.header.aligned a)) (sym c.requires.header_value))

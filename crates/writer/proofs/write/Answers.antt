@@ -28,7 +28,7 @@ returns-then-has_wrong_facts c =
     let passed : record_judged c.args.header ≡ Passed image fact = sym c.judge_record-judged.ensures ∙ c.in-Passed.is in
     let a = c.args in
     let w = writes_26 a.header a.buf.now image fact passed (sym c.has_wrong_facts.ensures ∙ c.if-has_wrong_facts.true) in
-    (c.refused.ensures ∙ w.0, w.1)
+    record { answer = c.refused.ensures ∙ w.0; content = w.1 }
 
 pub returns-then-buf-lt348 : goal.returns-then-buf-lt348
 returns-then-buf-lt348 c =
@@ -38,12 +38,13 @@ returns-then-buf-lt348 c =
     let a = c.args in
     let right = sym c.has_wrong_facts.ensures ∙ c.if-has_wrong_facts.false in
     let w = writes_22 a.header a.buf.now image fact passed right c.if-buf-lt348.true in
-    (c.refused-then-buf-lt348.ensures ∙ w.0, w.1)
+    record { answer = c.refused-then-buf-lt348.ensures ∙ w.0; content = w.1 }
 
 pub returns-in-Failed : goal.returns-in-Failed
 returns-in-Failed c =
     let a = c.args in
-    writes_failed a.header a.buf.now c.in-Failed.r (sym c.judge_record-judged.ensures ∙ c.in-Failed.is)
+    let w = writes_failed a.header a.buf.now c.in-Failed.r (sym c.judge_record-judged.ensures ∙ c.in-Failed.is) in
+    record { answer = w.0; content = w.1 }
 
 pub returns-else-buf-lt348 : goal.returns-else-buf-lt348
 returns-else-buf-lt348 c =
@@ -53,4 +54,4 @@ returns-else-buf-lt348 c =
     let a = c.args in
     let right = sym c.has_wrong_facts.ensures ∙ c.if-has_wrong_facts.false in
     let all = writes_all a.header a.buf.now image fact passed right (omega arith) in
-    (all.0, c.write_header.ensures ∙ all.1)
+    record { answer = all.0; content = c.write_header.ensures ∙ all.1 }
