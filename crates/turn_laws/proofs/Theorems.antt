@@ -8,7 +8,6 @@ use native.Mathlib.Omega.{arith}
 use lib.IntN.{pos}
 use lib.ListN.{length, get_or, take, drop}
 use Rattle.refusal.specs.declared.Verdict.TheVariants.{Accepted}
-use Rattle.refusal.specs.Table.{verdict}
 use Rattle.header.specs.declared.Header.{Header}
 use Rattle.encode.proofs.Back.{Writable}
 use Rattle.rules.specs.Rules.{completed}

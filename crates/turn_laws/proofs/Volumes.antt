@@ -1,6 +1,6 @@
 -- What a turn leaves of dims, pixdims and image bytes, over the call's own outputs; and so the laws of two turns and of a turn and its
 -- inverse (02-change-requests.md, P10).
-use Prim.Native.Nat.{ℕ, ◌+◌, ◌*◌, ◌≤◌}
+use Prim.Native.Nat.{ℕ, ◌*◌, ◌≤◌}
 use mathlib.Core.Path.{◌≡◌, sym, ap, subst, ◌∙◌}
 use mathlib.Core.Bool.{true}
 use mathlib.Core.List.{List, ◌++◌}

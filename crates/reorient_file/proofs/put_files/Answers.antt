@@ -1,7 +1,6 @@
 -- `put_files` meets its contract, by the laws of proofs/Made.antt.
 use native.Mathlib.Omega.{arith}
 use Rattle.reorient_file.proofs.Made.{room_single, room_pair, fits_pair, files_single, files_pair}
-use borrow.Author.Rules.{rules}
 use Rattle.reorient_file.proofs.put_files.Goals as goal
 
 pub put_holder-requires : goal.put_holder-requires
@@ -15,12 +14,12 @@ put_holder-requires c =
 pub put_header-requires : goal.put_header-requires
 put_header-requires c =
     let r = c.requires.room in
-    record { t_value = c.requires.t_value; header_value = c.requires.header_value; in_bounds = omega (arith, r.long, r.fits, c.put_holder.auto.0) }
+    record { t_value = c.requires.t_value; header_value = c.requires.header_value; in_bounds = omega (arith, r.long, r.fits, c.put_holder.auto.out) }
 
 pub put_header-requires-in-Pair : goal.put_header-requires-in-Pair
 put_header-requires-in-Pair c =
     let r = c.requires.room in
-    record { t_value = c.requires.t_value; header_value = c.requires.header_value; in_bounds = omega (arith, r.long, r.fits, c.copy_in.auto.0) }
+    record { t_value = c.requires.t_value; header_value = c.requires.header_value; in_bounds = omega (arith, r.long, r.fits, c.copy_in.auto.buf) }
 
 pub put_holder-requires-in-Pair : goal.put_holder-requires-in-Pair
 put_holder-requires-in-Pair c =

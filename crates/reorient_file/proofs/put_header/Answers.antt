@@ -6,7 +6,6 @@ use Rattle.header.specs.declared.Header.{Header}
 use Rattle.encode.specs.Encode.{encode}
 use Rattle.encode.proofs.Widths.{length-encode}
 use Rattle.reorient_file.specs.Files.{with_header}
-use borrow.Author.Rules.{rules}
 use Rattle.reorient_file.proofs.put_header.Goals as goal
 
 pub returns : goal.returns

@@ -14,12 +14,11 @@ use Rattle.reorient.specs.Reorient.{reoriented}
 use Rattle.reorient.proofs.Seven.{length_seven}
 use Rattle.reorient_file.specs.Files.{holder_after}
 use Rattle.reorient_file.proofs.Made.{image_voxels, parts_put}
-use borrow.Author.Rules.{rules}
 use Rattle.reorient_file.proofs.put_holder.Goals as goal
 
 pub put_image-requires : goal.put_image-requires
 put_image-requires c =
-    let same = ap (λ (i : Image). i.bytes) c.requires.image_value in record { t_value = c.requires.t_value; sized = c.requires.sized; header_in_bounds = omega (arith, same, c.requires.bytes_in_bounds); src_in_bounds = omega (arith, c.requires.src_in_bounds, c.copy_in.auto.0) }
+    let same = ap (λ (i : Image). i.bytes) c.requires.image_value in record { t_value = c.requires.t_value; sized = c.requires.sized; header_in_bounds = omega (arith, same, c.requires.bytes_in_bounds); src_in_bounds = omega (arith, c.requires.src_in_bounds, c.copy_in.auto.buf) }
 
 pub returns : goal.returns
 unfolding holder_after

@@ -19,22 +19,14 @@ reorient_image-requires c =
     let lengths = c.seven-lengths.ensures ∙ ap (seven_axes h.dim) c.axis_count.ensures.0 in
     let z = c.requires.sized in
     let n = image_voxels h in
-    rw (lengths, bytes-is) (
-      c.requires.t_value,
-      (
-        z.small,
-        (
-          z.some,
-          (
-            omega (arith, n, z.bytes),
-            (
-              omega (arith, n, c.requires.header_in_bounds),
-              omega (arith, n, c.requires.header_in_bounds, c.requires.src_in_bounds),
-            ),
-          ),
-        ),
-      ),
-    )
+    record {
+      t_value = c.requires.t_value;
+      b_bound = rw bytes-is z.small;
+      lengths_nonzero = rw lengths z.some;
+      lengths_bound = rw (lengths, bytes-is) (omega (arith, n, z.bytes));
+      lengths_in_bounds = rw (lengths, bytes-is) (omega (arith, n, c.requires.header_in_bounds));
+      lengths_in_bounds_2 = rw (lengths, bytes-is) (omega (arith, n, c.requires.header_in_bounds, c.requires.src_in_bounds));
+    }
 
 pub returns : goal.returns
 returns c =

@@ -1,5 +1,4 @@
 -- `is_longer` meets its contract: only a pair is asked.
-use borrow.Author.Rules.{rules}
 use Rattle.turn.proofs.is_longer.Goals as goal
 
 pub returns-in-Pair : goal.returns-in-Pair

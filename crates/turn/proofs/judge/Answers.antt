@@ -3,12 +3,10 @@ use Prim.Native.Nat.{◌≤◌}
 use mathlib.Core.Path.{◌≡◌, sym, ◌∙◌}
 use mathlib.Core.Bool.{true, false}
 use native.Mathlib.Omega.{arith}
-use borrow.Author.Tests.{not-true, not-false}
 use Rattle.rules.specs.Rules.{axis_count, image_cut}
 use Rattle.reorient.specs.Reorient.{is_permutation}
 use Rattle.reorient_header.specs.After.{not_finite}
 use Rattle.turn.proofs.Judging.{gives_16, gives_29, gives_30, gives_23, gives_22, gives_22_image, gives_none}
-use borrow.Author.Rules.{rules}
 use Rattle.turn.proofs.judge.Goals as goal
 
 pub returns-then-image_cut : goal.returns-then-image_cut

@@ -1,7 +1,6 @@
 -- `turn` meets its contract: a refused file is left, and of an accepted one `turn_shown` does all.
 use mathlib.Core.Path.{sym, ◌∙◌}
 use Rattle.turn.proofs.Shown.{turns_hidden}
-use borrow.Author.Rules.{rules}
 use Rattle.turn.proofs.turn.Goals as goal
 
 pub turn_shown-requires : goal.turn_shown-requires

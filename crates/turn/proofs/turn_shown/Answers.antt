@@ -1,7 +1,6 @@
 -- `turn_shown` meets its contract: the record without the extensions does as well as the whole one (proofs/Shown.antt).
 use mathlib.Core.Path.{◌≡◌, sym, ◌∙◌}
 use Rattle.turn.proofs.Shown.{allowed, parsed, parsed_image, parsed_sized, parsed_room, turns_refused, turns_made}
-use borrow.Author.Rules.{rules}
 use Rattle.turn.proofs.turn_shown.Goals as goal
 
 pub judge-judged-requires : goal.judge-judged-requires
@@ -19,7 +18,13 @@ put_files-requires c =
     let ok = allowed _ _ _ _ _ _ j in
     let image = parsed_image f a.outline c.requires in
     let room = parsed_room f a.outline c.requires a.t _ _ _ ok in
-    rw h (ok.permutation, (ok.finite, (parsed_sized f a.outline c.requires, (image, room))))
+    record {
+      t_value = ok.permutation;
+      header_value = rw h ok.finite;
+      sized = rw h (parsed_sized f a.outline c.requires);
+      place_value = rw h image;
+      room = rw h room;
+    }
 
 pub returns-in-Refused : goal.returns-in-Refused
 returns-in-Refused c =

@@ -1,5 +1,4 @@
 -- `turned_answer` meets its contract.
-use borrow.Author.Rules.{rules}
 use Rattle.turn_answers.proofs.turned_answer.Goals as goal
 
 pub returns-in-Made : goal.returns-in-Made
