@@ -6,4 +6,4 @@ use Rattle.edit.proofs.append.Goals as goal
 
 pub returns : goal.returns
 returns c =
-    rw (to_z-of_z w32 c.args.code c.ranges.code) at c.apply.ensures
+    record { answer = rw (to_z-of_z w32 c.args.code c.ranges.code) at c.apply.ensures.answer; content = rw (to_z-of_z w32 c.args.code c.ranges.code) at c.apply.ensures.content }

@@ -19,7 +19,7 @@ pub returns-then-buf-len : goal.returns-then-buf-len
 returns-then-buf-len c =
     let a = c.args in
     let e = outcome_24 a.buf.now a.len a.change a.code a.payload.now c.if-buf-len.true in
-    (ap edit_answer (sym e), ap (buffer_after a.buf.now a.len) (sym e))
+    record { answer = ap edit_answer (sym e); content = ap (buffer_after a.buf.now a.len) (sym e) }
 
 pub splice-length-requires : goal.splice-length-requires
 splice-length-requires c =
@@ -41,7 +41,7 @@ returns-in-Stop c =
     let a = c.args in
     let e = outcome_stop a.buf.now a.len a.change a.code a.payload.now c.if-buf-len.false c.in-Stop.r
     (sym planned-at ∙ c.in-Stop.is) in
-    (ap edit_answer (sym e), ap (buffer_after a.buf.now a.len) (sym e))
+    record { answer = ap edit_answer (sym e); content = ap (buffer_after a.buf.now a.len) (sym e) }
 
 pub returns-in-Go : goal.returns-in-Go
 returns-in-Go c =
@@ -53,10 +53,11 @@ returns-in-Go c =
     let a = c.args in
     let e = outcome_go a.buf.now a.len a.change a.code a.payload.now c.if-buf-len.false c.in-Go.x
     (sym planned-at ∙ c.in-Go.is) in
-    let r = rw (to_z-of_z w32 a.code c.ranges.code) at c.splice-length.ensures in
+    let long = rw (to_z-of_z w32 a.code c.ranges.code) at c.splice-length.ensures.answer in
+    let held = rw (to_z-of_z w32 a.code c.ranges.code) at c.splice-length.ensures.content in
     let f = take a.len a.buf.now in
     let go = planned f (length a.buf.now) a.change a.code a.payload.now c.in-Go.x (sym planned-at ∙ c.in-Go.is) in
     let x =
     sym (ap (λ (y : Plan). y.aligned) go.1)
     ∙ plan_aligned f (length a.buf.now) a.change a.code a.payload.now c.ranges.code go.0 in
-    rw e ((λ i. Done (record { length = r.0 i; aligned = x i })), r.1)
+    record { answer = rw e (λ i. Done (record { length = long i; aligned = x i })); content = rw e held }

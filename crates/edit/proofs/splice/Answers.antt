@@ -158,7 +158,7 @@ overflow_add-result c =
     let r = s.room in
     let o = s.out in
     let w = c.greater-whole.ensures in
-    record { fits = omega (arith, (start-at g).good) }
+    record { fits = omega arith }
 
 pub returns : goal.returns
 returns c =
@@ -179,9 +179,11 @@ returns c =
     let sizes-at : Sizes buffer-at len-at change-at code_at payload-at plan-at =
         sizes buffer-at len-at change-at code_at payload-at plan-at c.requires.0 allowed_at carries-at in
     let w = c.greater-whole.ensures in
-    let q = to_z-of_z w32 c.args.code c.ranges.code in (
-      rw w (sym sizes-at.result),
-      spliced buffer-at len-at change-at code_at payload-at plan-at c.requires.0 allowed_at carries-at
-          c.ranges.code c.greater-whole.result c.make_room.last.0 c.put_new.last.0 c.put_extender.new.buf c.put_offset.new.buf w
-          c.make_room.ensures (rw q at c.put_new.ensures) c.put_extender.ensures c.put_offset.ensures,
-    )
+    let q = to_z-of_z w32 c.args.code c.ranges.code in
+    record {
+      answer = rw w (sym sizes-at.result);
+      content =
+          spliced buffer-at len-at change-at code_at payload-at plan-at c.requires.0 allowed_at carries-at
+          c.ranges.code c.greater-whole.result c.make_room.new.buf c.put_new.new.buf c.put_extender.new.buf c.put_offset.new.buf w
+          c.make_room.ensures (rw q at c.put_new.ensures) c.put_extender.ensures c.put_offset.ensures;
+    }

@@ -44,3 +44,10 @@ returns-then-axis-bytes c =
 pub by_width-requires : goal.by_width-requires
 by_width-requires c =
     record { b_bound = c.requires.bytes_bound.0; inside = c.requires.inside; axis_in_bounds = omega (arith, c.requires.axis_in_bounds) }
+
+pub slice_bounds-copy_in-end : goal.slice_bounds-copy_in-end
+slice_bounds-copy_in-end c =
+    let run : let a = c.args in a.course.from + a.course.axis.length * a.course.bytes ≤ length a.src.now =
+        let a = c.args in
+        inside_side a.course.bytes a.course.from a.course.axis c.if-axis-bytes.true c.requires.bytes_bound.1 (length a.src.now) c.requires.inside in
+    omega (arith, run)

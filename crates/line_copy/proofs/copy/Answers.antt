@@ -13,7 +13,7 @@ by_steps-requires c =
     let inside = course_inside a.v a.src.now a.image a.axis a.index (length a.out.now) l in
     let gathers = course_gathers a.v a.src.now a.image a.axis a.index (length a.out.now) l in
     let room = line_room a.v a.src.now a.image a.axis a.index (length a.out.now) l in
-    rw (← c.requires.index_value) ((omega (arith, l.wide), refl), (inside, rw gathers room))
+    rw (← c.requires.index_value) (record { bytes_bound = (omega (arith, l.wide), refl); inside = inside; axis_in_bounds = rw gathers room })
 
 pub returns-in-Steps : goal.returns-in-Steps
 returns-in-Steps c =
