@@ -91,7 +91,7 @@ put_extender-requires c =
     let sizes-at : Sizes buffer-at len-at change-at code_at payload-at plan-at =
         sizes buffer-at len-at change-at code_at payload-at plan-at c.requires.0 allowed_at carries-at in
     let s = sizes-at.inside in
-    omega (arith, c.put_new.auto.buf, c.make_room.kept.0)
+    omega (arith, c.put_new.auto.buf, c.make_room.auto.buf)
 
 pub put_offset-requires : goal.put_offset-requires
 put_offset-requires c =
@@ -113,7 +113,7 @@ put_offset-requires c =
         sizes buffer-at len-at change-at code_at payload-at plan-at c.requires.0 allowed_at carries-at in
     let s = sizes-at in
     let i = s.inside in
-    (omega (arith, c.put_extender.auto.buf, c.put_new.kept.0, c.make_room.kept.0), s.end_limit)
+    (omega (arith, c.put_extender.auto.buf, c.put_new.auto.buf, c.make_room.auto.buf), s.end_limit)
 
 pub overflow_sub-result : goal.overflow_sub-result
 overflow_sub-result c =
