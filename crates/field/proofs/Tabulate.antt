@@ -5,7 +5,7 @@ use mathlib.Core.List.{List, [], ◌∷◌, ◌++◌, append-nil}
 use native.Mathlib.Omega.{arith}
 use native.Mathlib.Numerals.{add-one}
 use lib.ListN.{length, get_or, take, drop, set, length-drop}
-use lib.Seq.{drop-cons, set_at, append_snoc, drop-length, ext_get_or, length-take-le, take-length, get_or-take, get_or-drop}
+use lib.Seq.{drop-cons, set_at, append_snoc, drop-length, ext_get_or, length-take-le, get_or-take, get_or-drop}
 use Rattle.field.specs.Numbers.{tabulate, bytes_at}
 
 module _ {ℓ} {A : Type ℓ} where

@@ -3,7 +3,6 @@
 // what a list of rows decides.
 #![tactic(auto)]
 
-
 // A refusal: its number in the table, and its place.
 #[derive(Clone, Copy)]
 pub struct Refusal {

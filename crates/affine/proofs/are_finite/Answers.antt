@@ -1,5 +1,4 @@
 -- `are_finite` meets its contract: the three tests that it joins are those of the definition.
-use borrow.Author.Rules.{rules}
 use mathlib.Core.Bool.{◌&&◌}
 use Rattle.affine.proofs.are_finite.Goals as goal
 

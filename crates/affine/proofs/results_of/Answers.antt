@@ -1,5 +1,4 @@
 -- `results_of` meets its contract, by what the three rows ensure.
-use borrow.Author.Rules.{rules}
 use Rattle.affine.proofs.results_of.Goals as goal
 
 pub returns : goal.returns

@@ -1,5 +1,4 @@
 -- `row_is_finite` meets its contract: the four tests that it joins are those of the definition.
-use borrow.Author.Rules.{rules}
 use mathlib.Core.Bool.{◌&&◌}
 use Rattle.affine.specs.Method.{finite_row}
 use Rattle.affine.proofs.row_is_finite.Goals as goal

@@ -1,12 +1,8 @@
 -- `clear` meets its contract: the zeros stored so far stand in the buffer, and each turn stores one more right behind them.
-use mathlib.Core.Path.{◌≡◌, refl, sym}
-use Prim.Native.Nat.{ℕ, ◌+◌, ◌-◌, ◌≤◌}
-use native.Mathlib.Omega.{arith}
-use lib.ListN.{length, replicate, length-set, length-replicate, replicate-append-replicate}
-use borrow.Author.Rules.{rules}
+use mathlib.Core.Path.{◌≡◌}
+use Prim.Native.Nat.{◌-◌, ◌≤◌}
+use lib.ListN.{length, replicate}
 use Rattle.buffer.specs.Put.{put}
-use Rattle.buffer.proofs.Laws.{put_nil}
-use Rattle.buffer.proofs.Moves.{store_next}
 use Rattle.buffer.proofs.clear.Given as goal
 
 abbrev pub invariant-loop-j : goal.invariant-loop-j

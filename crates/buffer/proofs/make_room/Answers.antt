@@ -5,7 +5,6 @@ use Prim.Native.Nat.{◌+◌, ◌-◌}
 use native.Mathlib.Omega.{arith}
 use lib.ListN.{length, take, drop, replicate, length-take, length-drop}
 use Rattle.buffer.proofs.Laws.{put_right}
-use borrow.Author.Rules.{rules}
 use Rattle.buffer.proofs.make_room.Goals as goal
 
 pub returns-then-new-old : goal.returns-then-new-old

@@ -2,7 +2,6 @@
 use mathlib.Core.Path.{◌≡◌, sym}
 use native.Mathlib.Omega.{arith}
 use Rattle.buffer.proofs.Laws.{put_same}
-use borrow.Author.Rules.{rules}
 use Rattle.buffer.proofs.slide.Goals as goal
 
 pub returns-else-to-from : goal.returns-else-to-from

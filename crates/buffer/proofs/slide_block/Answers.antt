@@ -2,7 +2,6 @@
 use Prim.Native.Nat.{◌+◌, ◌-◌}
 use native.Mathlib.Omega.{arith}
 use Rattle.buffer.proofs.Moves.{by_way_of}
-use borrow.Author.Rules.{rules}
 use Rattle.buffer.proofs.slide_block.Goals as goal
 
 pub returns : goal.returns

@@ -1,12 +1,9 @@
 -- `slide_down` meets its contract: what was to slide in all is what is left to slide, since a slide downwards is one of its first block
 -- and then one of the others (`down_in_two`).
-use mathlib.Core.Path.{◌≡◌, refl, sym, ◌∙◌}
-use Prim.Native.Nat.{◌+◌, ◌-◌, ◌≤◌}
-use native.Mathlib.Omega.{arith}
+use mathlib.Core.Path.{◌≡◌}
+use Prim.Native.Nat.{◌+◌, ◌≤◌}
 use lib.ListN.{length, take, drop}
-use borrow.Author.Rules.{rules}
 use Rattle.buffer.specs.Put.{put}
-use Rattle.buffer.proofs.Moves.{down_in_two}
 use Rattle.buffer.proofs.slide_down.Given as goal
 
 abbrev pub invariant-loop-left : goal.invariant-loop-left

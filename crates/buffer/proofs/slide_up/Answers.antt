@@ -1,11 +1,8 @@
 -- `slide_up` meets its contract: what was to slide in all is what is left to slide, since a slide upwards is one of its last block and
 -- then one of the others (`up_in_two`).
-use mathlib.Core.Path.{◌≡◌, refl, sym, ◌∙◌}
-use Prim.Native.Nat.{◌+◌, ◌-◌, ◌≤◌}
+use mathlib.Core.Path.{refl, sym, ◌∙◌}
+use Prim.Native.Nat.{◌-◌}
 use native.Mathlib.Omega.{arith}
-use lib.ListN.{length, take, drop}
-use borrow.Author.Rules.{rules}
-use Rattle.buffer.specs.Put.{put}
 use Rattle.buffer.proofs.Moves.{up_in_two}
 use Rattle.buffer.proofs.slide_up.Goals as goal
 

@@ -3,7 +3,6 @@ use mathlib.Core.Path.{◌∙◌}
 use native.Mathlib.Nat.{add-zero}
 use Rattle.byte_pairs.specs.Pairs.{pair_at}
 use Rattle.byte_pairs.proofs.Pairs.{pair_joined}
-use borrow.Author.Rules.{rules}
 use Rattle.byte_pairs.proofs.pair_at.Goals as goal
 
 pub returns : goal.returns

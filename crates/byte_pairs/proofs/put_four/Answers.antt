@@ -1,6 +1,5 @@
 -- `put_four` meets its contract: each pair is stored behind those before it.
 use Rattle.byte_pairs.proofs.Pairs.{four_stored}
-use borrow.Author.Rules.{rules}
 use Rattle.byte_pairs.proofs.put_four.Goals as goal
 
 pub returns : goal.returns

@@ -3,7 +3,6 @@ use native.Mathlib.Numerals.{add-one}
 use native.Mathlib.Omega.{arith}
 use lib.ListN.{length-set}
 use Rattle.byte_pairs.specs.Pairs.{pair_bytes}
-use borrow.Author.Rules.{rules}
 use Rattle.byte_pairs.proofs.put_pair.Goals as goal
 
 pub bounds-buf-at-2 : goal.bounds-buf-at-2

@@ -3,7 +3,6 @@ use mathlib.Core.Path.{ap, ◌∙◌}
 use mathlib.Core.List.{reverse}
 use Rattle.byte_pairs.specs.Pairs.{pair_bytes}
 use Rattle.byte_pairs.proofs.Pairs.{pair_bytes_lem}
-use borrow.Author.Rules.{rules}
 use Rattle.byte_pairs.proofs.turned_at.Goals as goal
 
 pub returns : goal.returns

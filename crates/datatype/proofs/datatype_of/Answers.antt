@@ -5,7 +5,6 @@ use borrow.Author.Tests.{ne_eqb}
 use mir.Syntax.{w16}
 use mir.Val.{of_z}
 use Rattle.datatype.proofs.Bits.{by_bits_lem}
-use borrow.Author.Rules.{rules}
 use Rattle.datatype.proofs.datatype_of.Goals as goal
 
 pub returns-in-2 : goal.returns-in-2

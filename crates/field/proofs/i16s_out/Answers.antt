@@ -2,13 +2,9 @@
 use lib.IntN.{pos}
 use mir.Syntax.{w16}
 use mir.ValLaws.{to_z-of_z}
-use Prim.Native.Nat.{◌+◌, ◌*◌, ◌-◌, ◌≤◌}
-use mathlib.Core.Path.{◌≡◌, ◌∙◌}
-use mathlib.Core.List.{◌++◌}
+use mathlib.Core.Path.{◌∙◌}
 use native.Mathlib.Omega.{arith}
-use borrow.Author.Rules.{rules}
-use lib.ListN.{length, drop, length-set}
-use Rattle.field.specs.Numbers.{tabulate, i16_at}
+use lib.ListN.{length-set}
 use Rattle.field.proofs.Tabulate.{tabulate_turn, tabulate_done}
 use Rattle.field.proofs.i16s_out.Goals as goal
 

@@ -1,15 +1,9 @@
 -- `i16s_out` meets its contract: at each turn the first i places hold the numbers, and the rest is as it was.
-use lib.IntN.{pos}
-use mir.Syntax.{w16}
-use mir.ValLaws.{to_z-of_z}
 use Prim.Native.Nat.{◌+◌, ◌*◌, ◌-◌, ◌≤◌}
-use mathlib.Core.Path.{◌≡◌, ◌∙◌}
+use mathlib.Core.Path.{◌≡◌}
 use mathlib.Core.List.{◌++◌}
-use native.Mathlib.Omega.{arith}
-use borrow.Author.Rules.{rules}
-use lib.ListN.{length, drop, length-set}
+use lib.ListN.{length, drop}
 use Rattle.field.specs.Numbers.{tabulate, i16_at}
-use Rattle.field.proofs.Tabulate.{tabulate_turn, tabulate_done}
 use Rattle.field.proofs.i16s_out.Given as goal
 
 abbrev pub invariant-loop-i : goal.invariant-loop-i

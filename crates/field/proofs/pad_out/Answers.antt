@@ -1,11 +1,6 @@
 -- `pad_out` meets its contract: at each turn the first i places hold the bytes, and the rest is as it was.
-use Prim.Native.Nat.{◌+◌, ◌-◌, ◌≤◌}
-use mathlib.Core.Path.{◌≡◌}
-use mathlib.Core.List.{◌++◌}
 use native.Mathlib.Omega.{arith}
-use borrow.Author.Rules.{rules}
-use lib.ListN.{length, get_or, drop, length-set}
-use Rattle.field.specs.Numbers.{tabulate}
+use lib.ListN.{length-set}
 use Rattle.field.proofs.Tabulate.{tabulate_turn, tabulate_done}
 use Rattle.field.proofs.pad_out.Goals as goal
 

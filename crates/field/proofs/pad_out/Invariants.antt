@@ -2,11 +2,8 @@
 use Prim.Native.Nat.{◌+◌, ◌-◌, ◌≤◌}
 use mathlib.Core.Path.{◌≡◌}
 use mathlib.Core.List.{◌++◌}
-use native.Mathlib.Omega.{arith}
-use borrow.Author.Rules.{rules}
-use lib.ListN.{length, get_or, drop, length-set}
+use lib.ListN.{length, get_or, drop}
 use Rattle.field.specs.Numbers.{tabulate}
-use Rattle.field.proofs.Tabulate.{tabulate_turn, tabulate_done}
 use Rattle.field.proofs.pad_out.Given as goal
 
 abbrev pub invariant-loop-i : goal.invariant-loop-i

@@ -2,7 +2,6 @@
 use native.Mathlib.Omega.{arith}
 use native.Mathlib.Nat.{add-zero}
 use Rattle.field.specs.Numbers.{u16_at}
-use borrow.Author.Rules.{rules}
 use Rattle.field.proofs.read_u16.Goals as goal
 
 pub returns-in-Little : goal.returns-in-Little

@@ -4,7 +4,6 @@ use mathlib.Core.Path.{◌≡◌, refl, ◌∙◌}
 use native.Mathlib.Omega.{arith}
 use native.Mathlib.Nat.{add-zero}
 use Rattle.field.specs.Numbers.{u32_at}
-use borrow.Author.Rules.{rules}
 use Rattle.field.proofs.read_u32.Goals as goal
 
 -- a number of four digits to the base 256, its digits turned round

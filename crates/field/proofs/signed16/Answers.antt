@@ -5,7 +5,6 @@ use native.Mathlib.Omega.{arith}
 use mathlib.Core.Path.{ap}
 use mir.Syntax.{w16}
 use mir.Val.{to_z}
-use borrow.Author.Rules.{rules}
 use Rattle.field.proofs.signed16.Goals as goal
 
 pub returns-else-n-lt32768 : goal.returns-else-n-lt32768

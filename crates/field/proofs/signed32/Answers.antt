@@ -5,7 +5,6 @@ use native.Mathlib.Omega.{arith}
 use mathlib.Core.Path.{ap}
 use mir.Syntax.{w32}
 use mir.Val.{to_z}
-use borrow.Author.Rules.{rules}
 use Rattle.field.proofs.signed32.Goals as goal
 
 pub returns-else-n-lt2147483648 : goal.returns-else-n-lt2147483648

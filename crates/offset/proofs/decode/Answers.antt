@@ -1,6 +1,6 @@
 -- `offset::decode` meets its contract: each return cites the law of its range of bit patterns (Ranges.antt).
 -- Assumes nothing.
-use Rattle.std.proofs.Common.{◌∙◌, arith, rules}
+use Rattle.std.proofs.Common.{◌∙◌, arith}
 use Rattle.offset.proofs.Ranges.{zero_answer, high_answer, low_answer, huge_answer, part_answer, above_answer, aligned_answer, unaligned_answer}
 use Rattle.offset.proofs.decode.Goals as goal
 

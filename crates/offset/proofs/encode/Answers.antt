@@ -1,6 +1,6 @@
 -- `offset::encode` meets its contract: it is what `nearest_u32_to_f32` ensures, and the float of a whole number is no NaN (Number.antt).
 -- Assumes nothing.
-use Rattle.std.proofs.Common.{not, T, sym, ap, subst, rules}
+use Rattle.std.proofs.Common.{not, T, sym, ap, subst}
 use lib.Ieee.{Float, binary32, is_nan, to_bits}
 use Rattle.offset.specs.Offset.{offset_bits}
 use Rattle.offset.proofs.Number.{whole_number}

@@ -1,5 +1,4 @@
 -- `slice_from` meets its contract: each arm is the inverse of the definition's, by the test on the code.
-use borrow.Author.Rules.{rules}
 use borrow.Author.Tests.{eq-eqb, ne_eqb}
 use native.Mathlib.Omega.{arith}
 use Rattle.slices.specs.Ranks.{order_in}

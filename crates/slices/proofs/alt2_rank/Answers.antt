@@ -1,5 +1,4 @@
 -- `alt2_rank` meets its contract: each arm is the definition's, by the test of whether o is odd.
-use borrow.Author.Rules.{rules}
 use borrow.Author.Tests.{eq-eqb, ne_eqb}
 use Rattle.slices.specs.Ranks.{alt2_rank}
 use Rattle.slices.proofs.alt2_rank.Goals as goal

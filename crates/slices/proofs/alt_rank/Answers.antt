@@ -1,5 +1,4 @@
 -- `alt_rank` meets its contract: each arm is the definition's, by the test of whether o is even.
-use borrow.Author.Rules.{rules}
 use borrow.Author.Tests.{eq-eqb, ne_eqb}
 use Rattle.slices.specs.Ranks.{alt_rank}
 use Rattle.slices.proofs.alt_rank.Goals as goal

@@ -1,5 +1,4 @@
 -- `order_in` meets its contract: each arm is the definition's, by the test on the code.
-use borrow.Author.Rules.{rules}
 use borrow.Author.Tests.{eq-eqb, ne_eqb}
 use Rattle.slices.specs.Ranks.{order_in}
 use Rattle.slices.proofs.order_in.Goals as goal

@@ -1,5 +1,4 @@
 -- `rank_of` meets its contract: each way is the definition's, by the tests on the code.
-use borrow.Author.Rules.{rules}
 use borrow.Author.Tests.{le-leb, lt-leb}
 use Rattle.slices.specs.Ranks.{rank_of}
 use Rattle.slices.proofs.rank_of.Goals as goal

@@ -1,5 +1,4 @@
 -- `time_of` meets its contract: by a positive duration the product is finite exactly when it is below the infinity.
-use borrow.Author.Rules.{rules}
 use mathlib.Core.Path.{◌≡◌, sym, ◌∙◌}
 use native.Mathlib.Omega.{arith}
 use lib.Ieee.{binary32, lt, of_bits, nan_bits}

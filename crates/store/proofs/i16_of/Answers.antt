@@ -2,7 +2,6 @@
 use lib.IntN.{pos}
 use mathlib.Core.Path.{sym}
 use lib.ListN.{get_or-eq_default}
-use borrow.Author.Rules.{rules}
 use Rattle.store.proofs.i16_of.Goals as goal
 
 pub returns-else-i-src : goal.returns-else-i-src

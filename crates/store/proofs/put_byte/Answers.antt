@@ -1,7 +1,6 @@
 -- `put_byte` meets its contract: a store past the end changes nothing.
 use mathlib.Core.Path.{sym}
 use lib.Seq.{set_out}
-use borrow.Author.Rules.{rules}
 use Rattle.store.proofs.put_byte.Goals as goal
 
 pub returns-else-at-buf : goal.returns-else-at-buf

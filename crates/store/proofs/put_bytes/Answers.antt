@@ -1,11 +1,7 @@
 -- `put_bytes` meets its contract: after i turns the first i bytes are stored.
-use Prim.Native.Nat.{◌-◌, ◌≤◌}
 use mathlib.Core.Path.{◌≡◌, ◌∙◌}
 use native.Mathlib.Omega.{arith}
-use borrow.Author.Rules.{rules}
-use lib.ListN.{length, get_or}
-use lib.Seq.{sets}
-use Rattle.field.specs.Numbers.{tabulate, padded}
+use Rattle.field.specs.Numbers.{padded}
 use Rattle.field.proofs.Stores.{byte_turn}
 use Rattle.store.proofs.put_bytes.Goals as goal
 

@@ -1,12 +1,9 @@
 -- `put_bytes` meets its contract: after i turns the first i bytes are stored.
 use Prim.Native.Nat.{◌-◌, ◌≤◌}
-use mathlib.Core.Path.{◌≡◌, ◌∙◌}
-use native.Mathlib.Omega.{arith}
-use borrow.Author.Rules.{rules}
+use mathlib.Core.Path.{◌≡◌}
 use lib.ListN.{length, get_or}
 use lib.Seq.{sets}
-use Rattle.field.specs.Numbers.{tabulate, padded}
-use Rattle.field.proofs.Stores.{byte_turn}
+use Rattle.field.specs.Numbers.{tabulate}
 use Rattle.store.proofs.put_bytes.Given as goal
 
 abbrev pub invariant-loop-i : goal.invariant-loop-i

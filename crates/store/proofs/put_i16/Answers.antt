@@ -1,7 +1,6 @@
 -- `put_i16` meets its contract: it stores the number's bits.
 use mir.Syntax.{w16}
 use mir.ValLaws.{to_z-of_z}
-use borrow.Author.Rules.{rules}
 use Rattle.store.proofs.put_i16.Goals as goal
 
 pub returns : goal.returns

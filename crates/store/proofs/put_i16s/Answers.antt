@@ -1,15 +1,12 @@
 -- `put_i16s` meets its contract: after i turns the first i numbers are stored.
-use Prim.Native.Nat.{◌-◌, ◌≤◌}
 use mathlib.Core.Path.{◌≡◌, refl, ◌∙◌}
 use native.Mathlib.Omega.{arith}
-use borrow.Author.Rules.{rules}
 use lib.IntN.{pos}
-use lib.ListN.{length, get_or}
-use lib.Seq.{sets}
+use lib.ListN.{get_or}
 use mir.Syntax.{w16}
 use mir.Val.{of_z}
 use mir.ValLaws.{to_z-of_z}
-use Rattle.field.specs.Numbers.{tabulate, joined, bytes_of, padded, i16s_bytes}
+use Rattle.field.specs.Numbers.{bytes_of, padded, i16s_bytes}
 use Rattle.field.proofs.Stores.{run_turn}
 use Rattle.store.proofs.put_i16s.Goals as goal
 

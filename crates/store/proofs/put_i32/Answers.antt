@@ -1,7 +1,6 @@
 -- `put_i32` meets its contract: it stores the number's bits.
 use mir.Syntax.{w32}
 use mir.ValLaws.{to_z-of_z}
-use borrow.Author.Rules.{rules}
 use Rattle.store.proofs.put_i32.Goals as goal
 
 pub returns : goal.returns

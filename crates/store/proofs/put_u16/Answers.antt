@@ -1,7 +1,6 @@
 -- `put_u16` meets its contract: its stores, in either order, are those of `bytes_of`.
 use Rattle.field.specs.Numbers.{bytes_of, padded}
 use Rattle.store.proofs.Places.{one_on}
-use borrow.Author.Rules.{rules}
 use Rattle.store.proofs.put_u16.Goals as goal
 
 pub returns-in-Little : goal.returns-in-Little

@@ -1,11 +1,8 @@
 -- `put_u32s` meets its contract: after i turns the first i numbers are stored.
-use Prim.Native.Nat.{◌-◌, ◌≤◌}
 use mathlib.Core.Path.{◌≡◌, refl, ◌∙◌}
 use native.Mathlib.Omega.{arith}
-use borrow.Author.Rules.{rules}
-use lib.ListN.{length, get_or}
-use lib.Seq.{sets}
-use Rattle.field.specs.Numbers.{tabulate, joined, bytes_of, padded, u32s_bytes}
+use lib.ListN.{get_or}
+use Rattle.field.specs.Numbers.{bytes_of, padded, u32s_bytes}
 use Rattle.field.proofs.Stores.{run_turn}
 use Rattle.store.proofs.put_u32s.Goals as goal
 

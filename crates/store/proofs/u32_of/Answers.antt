@@ -1,7 +1,6 @@
 -- `u32_of` meets its contract: past the end, a list's element is the default.
 use mathlib.Core.Path.{sym}
 use lib.ListN.{get_or-eq_default}
-use borrow.Author.Rules.{rules}
 use Rattle.store.proofs.u32_of.Goals as goal
 
 pub returns-else-i-src : goal.returns-else-i-src

@@ -3,10 +3,8 @@
 use native.Mathlib.Omega.{arith}
 use native.Mathlib.Nat.{one-mul}
 use lib.ListN.{length}
-use Prim.Native.Nat.{◌+◌, ◌-◌, ◌*◌, ◌≤◌}
+use Prim.Native.Nat.{◌+◌, ◌-◌}
 use mathlib.Core.Path.{ap, ◌≡◌, refl, sym, ◌∙◌}
-use borrow.Author.Rules.{rules}
-use Rattle.units.specs.Units.{turned_at}
 use Rattle.units.proofs.Units.{turned_done, turned_next, turned-reverse, bytes_left, length-turned_at}
 use Rattle.units.proofs.turn_each.Goals as goal
 

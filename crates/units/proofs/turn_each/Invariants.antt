@@ -1,13 +1,9 @@
 -- `turn_each` meets its contract. The invariant: the units that are left, turned round from `at`, come to what the whole was to be at the start. A turn
 -- of the loop is `turned_next`, since what `bytes::reverse` leaves is one unit turned round.
-use native.Mathlib.Omega.{arith}
-use native.Mathlib.Nat.{one-mul}
 use lib.ListN.{length}
 use Prim.Native.Nat.{◌+◌, ◌*◌, ◌≤◌}
-use mathlib.Core.Path.{◌≡◌, refl, sym, ◌∙◌}
-use borrow.Author.Rules.{rules}
+use mathlib.Core.Path.{◌≡◌}
 use Rattle.units.specs.Units.{turned_at}
-use Rattle.units.proofs.Units.{turned_done, turned_next, turned-reverse, bytes_left}
 use Rattle.units.proofs.turn_each.Given as goal
 
 abbrev pub invariant-loop-left : goal.invariant-loop-left

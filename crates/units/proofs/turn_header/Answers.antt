@@ -1,10 +1,8 @@
 -- `turn_header` meets its contract: one step of a chain for each of the sixteen runs of a header, eleven by a call and five that stay.
-use mathlib.Core.Path.{refl, ap, ◌∙◌}
+use mathlib.Core.Path.{refl}
 use native.Mathlib.Omega.{arith}
-use borrow.Author.Rules.{rules}
-use lib.ListN.{length}
 use Rattle.units.specs.Runs.{run, turn_runs_at, header_runs}
-use Rattle.units.proofs.Runs.{length-turn_runs_at, header_span}
+use Rattle.units.proofs.Runs.{header_span}
 use Rattle.units.proofs.Chain.{Chain, chain_next, chain_stay, chain_done}
 use Rattle.units.proofs.turn_header.Goals as goal
 

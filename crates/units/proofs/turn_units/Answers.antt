@@ -1,6 +1,5 @@
 -- `turn_units` meets its contract: each arm is what `turn_each` ensures, at the width that the arm's number says; units of one byte stay.
 use mathlib.Core.Path.{sym}
-use borrow.Author.Rules.{rules}
 use Rattle.units.proofs.Units.{turned_at_bytes}
 use Rattle.units.proofs.turn_units.Goals as goal
 

@@ -1,5 +1,4 @@
 -- `by_pairs` meets its contract: pairs exchanged, after bytes, are units of four turned round.
-use borrow.Author.Rules.{rules}
 use Rattle.words.proofs.Steps.{to_fours}
 use Rattle.words.proofs.by_pairs.Goals as goal
 

@@ -1,5 +1,4 @@
 -- `eight` meets its contract: halves exchanged, after pairs, are one unit of eight turned round.
-use borrow.Author.Rules.{rules}
 use Rattle.words.proofs.Steps.{to_eight}
 use Rattle.words.proofs.eight.Goals as goal
 

@@ -2,7 +2,6 @@
 use mathlib.Core.Path.{◌∙◌}
 use Rattle.words.specs.Words.{word_at}
 use Rattle.words.proofs.Stored.{eight_joined}
-use borrow.Author.Rules.{rules}
 use Rattle.words.proofs.first_word.Goals as goal
 
 pub returns : goal.returns

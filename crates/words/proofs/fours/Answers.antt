@@ -1,5 +1,4 @@
 -- `fours` meets its contract: the halves of a unit of eight exchanged again are two units of four.
-use borrow.Author.Rules.{rules}
 use Rattle.words.proofs.Steps.{from_eight}
 use Rattle.words.proofs.fours.Goals as goal
 

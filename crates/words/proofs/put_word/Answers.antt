@@ -5,7 +5,6 @@ use lib.ListN.{length-set}
 use Rattle.field.specs.Numbers.{little_bytes}
 use Rattle.words.specs.Words.{word_bytes}
 use Rattle.words.proofs.Stored.{put-sets}
-use borrow.Author.Rules.{rules}
 use Rattle.words.proofs.put_word.Goals as goal
 
 pub bounds-buf-at-2 : goal.bounds-buf-at-2

@@ -1,6 +1,5 @@
 -- `turned` meets its contract: each arm is what its call ensures, at the width that the arm's number says.
 use Rattle.words.proofs.Steps.{fills_other}
-use borrow.Author.Rules.{rules}
 use Rattle.words.proofs.turned.Goals as goal
 
 pub returns-in-2 : goal.returns-in-2
