@@ -125,9 +125,9 @@ module _ (f g : List ℕ) (xs : List (List ℕ)) (a : IsAccepted f) (r : Renewed
             (record {
               before = before;
               after = after;
-              length-same = refl;
+              length_same = refl;
               bytes_same = c ∙ s ∙ sym b;
-              bytes-before = b;
+              bytes_before = b;
               bytes_after = c;
               moved = omega arith;
             })

@@ -2,4 +2,3 @@
 // image"). There is no code here; the theorem of proofs/Theorems.antt speaks of the definitions that `byteswap`'s and
 // `voxel`'s promises cite.
 #![tactic(auto)]
-

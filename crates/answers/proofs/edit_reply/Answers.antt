@@ -1,5 +1,4 @@
 -- `edit_reply` meets its contract: each case's struct.
-use borrow.Author.Rules.{rules}
 use Rattle.answers.proofs.edit_reply.Goals as goal
 
 pub returns-in-Done : goal.returns-in-Done

@@ -1,5 +1,4 @@
 -- `line_reply` meets its contract: each case's struct.
-use borrow.Author.Rules.{rules}
 use Rattle.answers.proofs.line_reply.Goals as goal
 
 pub returns-in-Copied : goal.returns-in-Copied

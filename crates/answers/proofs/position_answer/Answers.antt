@@ -1,6 +1,5 @@
 -- `position_answer` meets its contract: each case's struct; the literal 0.0 is plus zero.
 use lib.Ieee.{of_bits}
-use borrow.Author.Rules.{rules}
 use Rattle.answers.proofs.position_answer.Goals as goal
 
 pub returns-in-At : goal.returns-in-At

@@ -1,5 +1,4 @@
 -- `ranked_answer` meets its contract: each case's struct.
-use borrow.Author.Rules.{rules}
 use Rattle.answers.proofs.ranked_answer.Goals as goal
 
 pub returns-in-Refused : goal.returns-in-Refused

@@ -14,7 +14,6 @@ use Rattle.layout.specs.File.{shape_in}
 use Rattle.outline.proofs.Outlines.{shown_long, shown_few, shown_aligned, shown_measured}
 use Rattle.answers.specs.Answers.{is_aligned}
 use Rattle.answers.proofs.Shown.{shown_file_lem}
-use borrow.Author.Rules.{rules}
 use Rattle.answers.proofs.shown_file.Goals as goal
 
 pub overflow_cast-count : goal.overflow_cast-count

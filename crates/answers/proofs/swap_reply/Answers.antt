@@ -1,5 +1,4 @@
 -- `swap_reply` meets its contract: each case's struct.
-use borrow.Author.Rules.{rules}
 use Rattle.answers.proofs.swap_reply.Goals as goal
 
 pub returns-in-Accepted : goal.returns-in-Accepted

@@ -1,5 +1,4 @@
 -- `voxel_reply` meets its contract: each case's struct.
-use borrow.Author.Rules.{rules}
 use Rattle.answers.proofs.voxel_reply.Goals as goal
 
 pub returns-in-At : goal.returns-in-At

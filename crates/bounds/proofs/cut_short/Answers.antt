@@ -1,5 +1,4 @@
 -- `cut_short` meets its contract: only a single file is asked.
-use borrow.Author.Rules.{rules}
 use Rattle.bounds.proofs.cut_short.Goals as goal
 
 pub returns-in-Single : goal.returns-in-Single

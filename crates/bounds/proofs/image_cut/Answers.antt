@@ -1,5 +1,4 @@
 -- `image_cut` meets its contract: only a pair is asked.
-use borrow.Author.Rules.{rules}
 use Rattle.bounds.proofs.image_cut.Goals as goal
 
 pub returns-in-Pair : goal.returns-in-Pair

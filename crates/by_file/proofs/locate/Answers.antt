@@ -3,7 +3,6 @@ use mathlib.Core.Path.{sym, ◌∙◌}
 use Rattle.outline.proofs.Outlines.{hidden_answer, shown_answer}
 use Rattle.voxel.specs.declared.Located.TheVariants.{Unlocated}
 use Rattle.by_file.specs.Files.{located_of}
-use borrow.Author.Rules.{rules}
 use Rattle.by_file.proofs.locate.Goals as goal
 
 pub locate_shown-requires : goal.locate_shown-requires

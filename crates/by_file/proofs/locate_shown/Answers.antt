@@ -14,12 +14,10 @@ use Rattle.grid.specs.declared.Sizes.{Sizes}
 use Rattle.grid.specs.Sizes.{bytes_before, Reaches}
 use Rattle.grid.proofs.Steps.{reached_outside, reached_inside}
 use Rattle.rules.specs.declared.Image.{Image}
-use Rattle.rules.specs.declared.Shape.{Shape}
 use Rattle.rules.specs.Rules.{axis_count, image_cut}
 use Rattle.layout.specs.File.{shape_in}
 use Rattle.outline.proofs.Outlines.{shown_long, shown_measured}
 use Rattle.voxel.specs.declared.Located.TheVariants.{At}
-use Rattle.voxel.specs.declared.Volume.{Volume}
 use Rattle.voxel.specs.Voxel.{lengths_in}
 use Rattle.by_file.proofs.Shown.{fields, volume, shown_image, shown_16, shown_17, shown_at, shown_small, shown_low}
 use borrow.Author.Rules.{rules}
@@ -68,9 +66,9 @@ returns-then-before c =
     let sizes-are : c.sizes_in-sizes.result ≡ by.sizes = rw (dims-are, bitpix-is) at c.sizes_in-sizes.ensures in
     let stated = seven_axes c.dims-dim.result c.axis_count.result in
     let answer : Reaches (lengths_in read) by.sizes.steps index_in c.bytes_before-before.result =
-        subst (λ (l : List ℕ). Reaches l by.sizes.steps index_in c.bytes_before-before.result)
-        (λ i. seven_axes (dims-are i) (count-is i))
-        (subst (λ (z : Sizes). Reaches stated z.steps index_in c.bytes_before-before.result) sizes-are c.bytes_before-before.ensures) in
+    subst (λ (l : List ℕ). Reaches l by.sizes.steps index_in c.bytes_before-before.result)
+    (λ i. seven_axes (dims-are i) (count-is i))
+    (subst (λ (z : Sizes). Reaches stated z.steps index_in c.bytes_before-before.result) sizes-are c.bytes_before-before.ensures) in
     let whole_is : image_cut c.args.outline.layout.kind c.args.len c.args.outline.layout.image ≡ false = sym c.image_cut.ensures ∙ c.if-image_cut.false in
     c.unlocated-then-before.ensures
     ∙ shown_17 c.args.file.now c.args.outline c.requires c.args.len index_in whole_is
@@ -88,9 +86,9 @@ overflow_add-result c =
     let sizes-are : c.sizes_in-sizes.result ≡ by.sizes = rw (dims-are, bitpix-is) at c.sizes_in-sizes.ensures in
     let stated = seven_axes c.dims-dim.result c.axis_count.result in
     let answer : Reaches (lengths_in read) by.sizes.steps index_in c.bytes_before-before.result =
-        subst (λ (l : List ℕ). Reaches l by.sizes.steps index_in c.bytes_before-before.result)
-        (λ i. seven_axes (dims-are i) (count-is i))
-        (subst (λ (z : Sizes). Reaches stated z.steps index_in c.bytes_before-before.result) sizes-are c.bytes_before-before.ensures) in
+    subst (λ (l : List ℕ). Reaches l by.sizes.steps index_in c.bytes_before-before.result)
+    (λ i. seven_axes (dims-are i) (count-is i))
+    (subst (λ (z : Sizes). Reaches stated z.steps index_in c.bytes_before-before.result) sizes-are c.bytes_before-before.ensures) in
     let inside : within (lengths_in read) index_in ≡ true = reached_inside answer c.if-before.false in
     let small : bytes_before by.sizes.steps index_in ≤ image_limit = shown_small c.args.file.now c.args.outline c.requires c.args.len index_in inside in
     let exact : c.bytes_before-before.result ≡ bytes_before by.sizes.steps index_in = omega (arith, answer.inside inside, small) in
@@ -108,9 +106,9 @@ returns c =
     let sizes-are : c.sizes_in-sizes.result ≡ by.sizes = rw (dims-are, bitpix-is) at c.sizes_in-sizes.ensures in
     let stated = seven_axes c.dims-dim.result c.axis_count.result in
     let answer : Reaches (lengths_in read) by.sizes.steps index_in c.bytes_before-before.result =
-        subst (λ (l : List ℕ). Reaches l by.sizes.steps index_in c.bytes_before-before.result)
-        (λ i. seven_axes (dims-are i) (count-is i))
-        (subst (λ (z : Sizes). Reaches stated z.steps index_in c.bytes_before-before.result) sizes-are c.bytes_before-before.ensures) in
+    subst (λ (l : List ℕ). Reaches l by.sizes.steps index_in c.bytes_before-before.result)
+    (λ i. seven_axes (dims-are i) (count-is i))
+    (subst (λ (z : Sizes). Reaches stated z.steps index_in c.bytes_before-before.result) sizes-are c.bytes_before-before.ensures) in
     let whole_is : image_cut c.args.outline.layout.kind c.args.len c.args.outline.layout.image ≡ false = sym c.image_cut.ensures ∙ c.if-image_cut.false in
     let inside : within (lengths_in read) index_in ≡ true = reached_inside answer c.if-before.false in
     let small : bytes_before by.sizes.steps index_in ≤ image_limit = shown_small c.args.file.now c.args.outline c.requires c.args.len index_in inside in

@@ -1,7 +1,6 @@
 -- `swap_by` meets its contract: a refused file refuses the swap.
 use mathlib.Core.Path.{sym, ◌∙◌}
 use Rattle.byteswap.proofs.Answers.{swaps_hidden}
-use borrow.Author.Rules.{rules}
 use Rattle.byteswap.proofs.swap_by.Goals as goal
 
 pub swap_shown-requires : goal.swap_shown-requires

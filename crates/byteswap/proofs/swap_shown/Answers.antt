@@ -29,8 +29,7 @@ turn_list-requires c =
 
 pub turn_image-requires : goal.turn_image-requires
 turn_image-requires c =
-    let known : Shows c.args.file.now 0 c.args.outline = shows c.args.file.now 0 c.args.outline c.requires in
-    (
+    let known : Shows c.args.file.now 0 c.args.outline = shows c.args.file.now 0 c.args.outline c.requires in (
       rw c.unit_in-unit.ensures (listed_unit known),
       omega (arith, single_room known c.in-Single.is, c.turn_list.auto.0, c.turn_header.auto.0),
     )

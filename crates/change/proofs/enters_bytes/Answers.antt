@@ -1,5 +1,4 @@
 -- `enters_bytes` meets its contract: only an append is asked.
-use borrow.Author.Rules.{rules}
 use Rattle.change.proofs.enters_bytes.Goals as goal
 
 pub returns-in-Append : goal.returns-in-Append

@@ -1,5 +1,4 @@
 -- `is_missing` meets its contract: only a number that is given is asked.
-use borrow.Author.Rules.{rules}
 use Rattle.change.proofs.is_missing.Goals as goal
 
 pub returns-in-Replace : goal.returns-in-Replace

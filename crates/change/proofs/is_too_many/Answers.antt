@@ -1,5 +1,4 @@
 -- `is_too_many` meets its contract: only an append adds one.
-use borrow.Author.Rules.{rules}
 use Rattle.change.proofs.is_too_many.Goals as goal
 
 pub returns-in-Append : goal.returns-in-Append

@@ -1,5 +1,4 @@
 -- `new_size` meets its contract: a removal brings nothing in.
-use borrow.Author.Rules.{rules}
 use Rattle.change.proofs.new_size.Goals as goal
 
 pub returns-in-Append : goal.returns-in-Append

@@ -1,7 +1,6 @@
 -- `offers_negative` meets its contract: a removal offers no code.
 use mir.Syntax.{w32}
 use mir.ValLaws.{to_z-of_z}
-use borrow.Author.Rules.{rules}
 use Rattle.change.proofs.offers_negative.Goals as goal
 
 pub returns-in-Append : goal.returns-in-Append

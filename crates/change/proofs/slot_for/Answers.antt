@@ -1,5 +1,4 @@
 -- `slot_for` meets its contract: an append is after the last extension.
-use borrow.Author.Rules.{rules}
 use Rattle.change.proofs.slot_for.Goals as goal
 
 pub returns-in-Append : goal.returns-in-Append

@@ -1,7 +1,6 @@
 -- `append` meets its contract: it is `apply` with that edit.
 use mir.Syntax.{w32}
 use mir.ValLaws.{to_z-of_z}
-use borrow.Author.Rules.{rules}
 use Rattle.edit.proofs.append.Goals as goal
 
 pub returns : goal.returns

@@ -4,7 +4,6 @@ use native.Mathlib.Nat.{sub-zero}
 use lib.ListN.{length, take}
 use mir.Syntax.{w32}
 use mir.ValLaws.{to_z-of_z}
-use Rattle.edit_plan.specs.declared.Planned.{Planned}
 use Rattle.edit_plan.specs.declared.Plan.{Plan}
 use Rattle.edit_plan.specs.Planned.{planned_of}
 use Rattle.edit_plan.proofs.Deciding.{planned}
@@ -12,7 +11,6 @@ use Rattle.edit.specs.declared.Edited.TheVariants.{Done}
 use Rattle.edit.specs.Outcome.{edit_answer, buffer_after}
 use Rattle.edit.proofs.Outcomes.{outcome_24, outcome_stop, outcome_go}
 use Rattle.edit.proofs.Theorems.{plan_aligned}
-use borrow.Author.Rules.{rules}
 use Rattle.edit.proofs.apply.Goals as goal
 
 pub returns-then-buf-len : goal.returns-then-buf-len
@@ -24,20 +22,20 @@ returns-then-buf-len c =
 pub splice-length-requires : goal.splice-length-requires
 splice-length-requires c =
     let planned-of =
-        let a = c.args in
-        planned_of (take a.len a.buf.now) (length a.buf.now) a.change a.code a.payload.now in
+    let a = c.args in
+    planned_of (take a.len a.buf.now) (length a.buf.now) a.change a.code a.payload.now in
     let planned-at : c.plan_edit-planned.result ≡ planned-of =
-        rw (to_z-of_z w32 c.args.code c.ranges.code, sub-zero) at c.plan_edit-planned.ensures in
+    rw (to_z-of_z w32 c.args.code c.ranges.code, sub-zero) at c.plan_edit-planned.ensures in
     rw (to_z-of_z w32 c.args.code c.ranges.code)
     (c.if-buf-len.false, sym planned-at ∙ c.in-Go.is)
 
 pub returns-in-Stop : goal.returns-in-Stop
 returns-in-Stop c =
     let planned-of =
-        let a = c.args in
-        planned_of (take a.len a.buf.now) (length a.buf.now) a.change a.code a.payload.now in
+    let a = c.args in
+    planned_of (take a.len a.buf.now) (length a.buf.now) a.change a.code a.payload.now in
     let planned-at : c.plan_edit-planned.result ≡ planned-of =
-        rw (to_z-of_z w32 c.args.code c.ranges.code, sub-zero) at c.plan_edit-planned.ensures in
+    rw (to_z-of_z w32 c.args.code c.ranges.code, sub-zero) at c.plan_edit-planned.ensures in
     let a = c.args in
     let e = outcome_stop a.buf.now a.len a.change a.code a.payload.now c.if-buf-len.false c.in-Stop.r
     (sym planned-at ∙ c.in-Stop.is) in
@@ -46,10 +44,10 @@ returns-in-Stop c =
 pub returns-in-Go : goal.returns-in-Go
 returns-in-Go c =
     let planned-of =
-        let a = c.args in
-        planned_of (take a.len a.buf.now) (length a.buf.now) a.change a.code a.payload.now in
+    let a = c.args in
+    planned_of (take a.len a.buf.now) (length a.buf.now) a.change a.code a.payload.now in
     let planned-at : c.plan_edit-planned.result ≡ planned-of =
-        rw (to_z-of_z w32 c.args.code c.ranges.code, sub-zero) at c.plan_edit-planned.ensures in
+    rw (to_z-of_z w32 c.args.code c.ranges.code, sub-zero) at c.plan_edit-planned.ensures in
     let a = c.args in
     let e = outcome_go a.buf.now a.len a.change a.code a.payload.now c.if-buf-len.false c.in-Go.x
     (sym planned-at ∙ c.in-Go.is) in

@@ -1,22 +1,17 @@
 -- `splice` meets its contract: its four steps are those of the law `spliced` (proofs/Splicing.antt).
-use Prim.Native.Nat.{ℕ, ◌+◌, ◌≤◌}
+use Prim.Native.Nat.{◌+◌, ◌≤◌}
 use mathlib.Core.Path.{sym}
-use mathlib.Core.List.{List}
 use native.Mathlib.Omega.{arith}
-use lib.IntN.{ℤ}
 use lib.ListN.{length, take}
 use mir.Syntax.{w32}
 use mir.Val.{to_z, of_z}
 use mir.ValLaws.{to_z-of_z}
 use Rattle.offset.specs.Offset.{offset_limit}
 use Rattle.layout.specs.File.{order_of}
-use Rattle.change.specs.declared.Change.{Change}
 use Rattle.change.specs.Change.{new_size}
-use Rattle.edit_plan.specs.declared.Plan.{Plan}
 use Rattle.edit_plan.proofs.Planning.{length_new}
 use Rattle.edit_plan.proofs.Deciding.{Allowed, allowed, planned}
 use Rattle.edit.proofs.Splicing.{Carries, carries, Sizes, sizes, spliced}
-use borrow.Author.Rules.{rules}
 use Rattle.edit.proofs.splice.Goals as goal
 
 pub make_room-requires : goal.make_room-requires
@@ -29,14 +24,14 @@ make_room-requires c =
     let payload-at = c.args.payload.now in
     let plan-at = c.args.plan in
     let allowed_at : Allowed file-at (length buffer-at) change-at code_at payload-at =
-        let n = length buffer-at in
-        allowed file-at n change-at code_at payload-at
-        (planned file-at n change-at code_at payload-at plan-at c.requires.1).0 in
+    let n = length buffer-at in
+    allowed file-at n change-at code_at payload-at
+    (planned file-at n change-at code_at payload-at plan-at c.requires.1).0 in
     let carries-at : Carries file-at change-at code_at payload-at plan-at =
-        carries file-at change-at code_at payload-at plan-at
-        (planned file-at (length buffer-at) change-at code_at payload-at plan-at c.requires.1).1 in
+    carries file-at change-at code_at payload-at plan-at
+    (planned file-at (length buffer-at) change-at code_at payload-at plan-at c.requires.1).1 in
     let sizes-at : Sizes buffer-at len-at change-at code_at payload-at plan-at =
-        sizes buffer-at len-at change-at code_at payload-at plan-at c.requires.0 allowed_at carries-at in
+    sizes buffer-at len-at change-at code_at payload-at plan-at c.requires.0 allowed_at carries-at in
     let s = sizes-at in
     let w = c.greater-whole.ensures in
     (rw w s.out, (rw w s.inside, rw w s.room))
@@ -51,14 +46,14 @@ put_new-requires c =
     let payload-at = c.args.payload.now in
     let plan-at = c.args.plan in
     let allowed_at : Allowed file-at (length buffer-at) change-at code_at payload-at =
-        let n = length buffer-at in
-        allowed file-at n change-at code_at payload-at
-        (planned file-at n change-at code_at payload-at plan-at c.requires.1).0 in
+    let n = length buffer-at in
+    allowed file-at n change-at code_at payload-at
+    (planned file-at n change-at code_at payload-at plan-at c.requires.1).0 in
     let carries-at : Carries file-at change-at code_at payload-at plan-at =
-        carries file-at change-at code_at payload-at plan-at
-        (planned file-at (length buffer-at) change-at code_at payload-at plan-at c.requires.1).1 in
+    carries file-at change-at code_at payload-at plan-at
+    (planned file-at (length buffer-at) change-at code_at payload-at plan-at c.requires.1).1 in
     let sizes-at : Sizes buffer-at len-at change-at code_at payload-at plan-at =
-        sizes buffer-at len-at change-at code_at payload-at plan-at c.requires.0 allowed_at carries-at in
+    sizes buffer-at len-at change-at code_at payload-at plan-at c.requires.0 allowed_at carries-at in
     let s = sizes-at in
     let v = carries-at in
     let size = new_size change-at (length payload-at) in
@@ -82,14 +77,14 @@ put_extender-requires c =
     let payload-at = c.args.payload.now in
     let plan-at = c.args.plan in
     let allowed_at : Allowed file-at (length buffer-at) change-at code_at payload-at =
-        let n = length buffer-at in
-        allowed file-at n change-at code_at payload-at
-        (planned file-at n change-at code_at payload-at plan-at c.requires.1).0 in
+    let n = length buffer-at in
+    allowed file-at n change-at code_at payload-at
+    (planned file-at n change-at code_at payload-at plan-at c.requires.1).0 in
     let carries-at : Carries file-at change-at code_at payload-at plan-at =
-        carries file-at change-at code_at payload-at plan-at
-        (planned file-at (length buffer-at) change-at code_at payload-at plan-at c.requires.1).1 in
+    carries file-at change-at code_at payload-at plan-at
+    (planned file-at (length buffer-at) change-at code_at payload-at plan-at c.requires.1).1 in
     let sizes-at : Sizes buffer-at len-at change-at code_at payload-at plan-at =
-        sizes buffer-at len-at change-at code_at payload-at plan-at c.requires.0 allowed_at carries-at in
+    sizes buffer-at len-at change-at code_at payload-at plan-at c.requires.0 allowed_at carries-at in
     let s = sizes-at.inside in
     omega (arith, c.put_new.auto.buf, c.make_room.auto.buf)
 
@@ -103,14 +98,14 @@ put_offset-requires c =
     let payload-at = c.args.payload.now in
     let plan-at = c.args.plan in
     let allowed_at : Allowed file-at (length buffer-at) change-at code_at payload-at =
-        let n = length buffer-at in
-        allowed file-at n change-at code_at payload-at
-        (planned file-at n change-at code_at payload-at plan-at c.requires.1).0 in
+    let n = length buffer-at in
+    allowed file-at n change-at code_at payload-at
+    (planned file-at n change-at code_at payload-at plan-at c.requires.1).0 in
     let carries-at : Carries file-at change-at code_at payload-at plan-at =
-        carries file-at change-at code_at payload-at plan-at
-        (planned file-at (length buffer-at) change-at code_at payload-at plan-at c.requires.1).1 in
+    carries file-at change-at code_at payload-at plan-at
+    (planned file-at (length buffer-at) change-at code_at payload-at plan-at c.requires.1).1 in
     let sizes-at : Sizes buffer-at len-at change-at code_at payload-at plan-at =
-        sizes buffer-at len-at change-at code_at payload-at plan-at c.requires.0 allowed_at carries-at in
+    sizes buffer-at len-at change-at code_at payload-at plan-at c.requires.0 allowed_at carries-at in
     let s = sizes-at in
     let i = s.inside in
     (omega (arith, c.put_extender.auto.buf, c.put_new.auto.buf, c.make_room.auto.buf), s.end_limit)
@@ -125,14 +120,14 @@ overflow_sub-result c =
     let payload-at = c.args.payload.now in
     let plan-at = c.args.plan in
     let allowed_at : Allowed file-at (length buffer-at) change-at code_at payload-at =
-        let n = length buffer-at in
-        allowed file-at n change-at code_at payload-at
-        (planned file-at n change-at code_at payload-at plan-at c.requires.1).0 in
+    let n = length buffer-at in
+    allowed file-at n change-at code_at payload-at
+    (planned file-at n change-at code_at payload-at plan-at c.requires.1).0 in
     let carries-at : Carries file-at change-at code_at payload-at plan-at =
-        carries file-at change-at code_at payload-at plan-at
-        (planned file-at (length buffer-at) change-at code_at payload-at plan-at c.requires.1).1 in
+    carries file-at change-at code_at payload-at plan-at
+    (planned file-at (length buffer-at) change-at code_at payload-at plan-at c.requires.1).1 in
     let sizes-at : Sizes buffer-at len-at change-at code_at payload-at plan-at =
-        sizes buffer-at len-at change-at code_at payload-at plan-at c.requires.0 allowed_at carries-at in
+    sizes buffer-at len-at change-at code_at payload-at plan-at c.requires.0 allowed_at carries-at in
     let s = sizes-at.out in
     omega (arith, c.greater-whole.ensures)
 
@@ -146,14 +141,14 @@ overflow_add-result c =
     let payload-at = c.args.payload.now in
     let plan-at = c.args.plan in
     let allowed_at : Allowed file-at (length buffer-at) change-at code_at payload-at =
-        let n = length buffer-at in
-        allowed file-at n change-at code_at payload-at
-        (planned file-at n change-at code_at payload-at plan-at c.requires.1).0 in
+    let n = length buffer-at in
+    allowed file-at n change-at code_at payload-at
+    (planned file-at n change-at code_at payload-at plan-at c.requires.1).0 in
     let carries-at : Carries file-at change-at code_at payload-at plan-at =
-        carries file-at change-at code_at payload-at plan-at
-        (planned file-at (length buffer-at) change-at code_at payload-at plan-at c.requires.1).1 in
+    carries file-at change-at code_at payload-at plan-at
+    (planned file-at (length buffer-at) change-at code_at payload-at plan-at c.requires.1).1 in
     let sizes-at : Sizes buffer-at len-at change-at code_at payload-at plan-at =
-        sizes buffer-at len-at change-at code_at payload-at plan-at c.requires.0 allowed_at carries-at in
+    sizes buffer-at len-at change-at code_at payload-at plan-at c.requires.0 allowed_at carries-at in
     let s = sizes-at in
     let r = s.room in
     let o = s.out in
@@ -170,14 +165,14 @@ returns c =
     let payload-at = c.args.payload.now in
     let plan-at = c.args.plan in
     let allowed_at : Allowed file-at (length buffer-at) change-at code_at payload-at =
-        let n = length buffer-at in
-        allowed file-at n change-at code_at payload-at
-        (planned file-at n change-at code_at payload-at plan-at c.requires.1).0 in
+    let n = length buffer-at in
+    allowed file-at n change-at code_at payload-at
+    (planned file-at n change-at code_at payload-at plan-at c.requires.1).0 in
     let carries-at : Carries file-at change-at code_at payload-at plan-at =
-        carries file-at change-at code_at payload-at plan-at
-        (planned file-at (length buffer-at) change-at code_at payload-at plan-at c.requires.1).1 in
+    carries file-at change-at code_at payload-at plan-at
+    (planned file-at (length buffer-at) change-at code_at payload-at plan-at c.requires.1).1 in
     let sizes-at : Sizes buffer-at len-at change-at code_at payload-at plan-at =
-        sizes buffer-at len-at change-at code_at payload-at plan-at c.requires.0 allowed_at carries-at in
+    sizes buffer-at len-at change-at code_at payload-at plan-at c.requires.0 allowed_at carries-at in
     let w = c.greater-whole.ensures in
     let q = to_z-of_z w32 c.args.code c.ranges.code in
     record {

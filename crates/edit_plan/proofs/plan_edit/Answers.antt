@@ -6,7 +6,6 @@ use Rattle.outline.specs.declared.Outlined.{Outlined}
 use Rattle.outline.specs.Outline.{outline_of}
 use Rattle.change.specs.Change.{named_by}
 use Rattle.edit_plan.proofs.Deciding.{stops_unread}
-use borrow.Author.Rules.{rules}
 use Rattle.edit_plan.proofs.plan_edit.Goals as goal
 
 pub plan_list-requires : goal.plan_list-requires

@@ -10,7 +10,6 @@ use mir.ValLaws.{to_z-of_z}
 use Rattle.field.specs.Numbers.{bytes_of}
 use Rattle.change.specs.Change.{size_for}
 use Rattle.edit_store.proofs.Storing.{stored_put}
-use borrow.Author.Rules.{rules}
 use Rattle.edit_store.proofs.put_extension.Goals as goal
 
 pub returns : goal.returns

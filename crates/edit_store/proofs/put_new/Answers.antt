@@ -11,7 +11,6 @@ use Rattle.change.specs.declared.Change.{Change}
 use Rattle.change.specs.Change.{new_size}
 use Rattle.edit_plan.specs.Fresh.{stored}
 use Rattle.edit_plan.proofs.Planning.{length_new}
-use borrow.Author.Rules.{rules}
 use Rattle.edit_store.proofs.put_new.Goals as goal
 
 pub put_extension-requires : goal.put_extension-requires

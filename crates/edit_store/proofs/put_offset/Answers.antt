@@ -6,7 +6,6 @@ use Rattle.field.specs.Numbers.{bytes_of}
 use Rattle.field.proofs.Stores.{length-bytes_of}
 use Rattle.offset.specs.Offset.{offset_bits}
 use Rattle.buffer.proofs.Laws.{sets-put}
-use borrow.Author.Rules.{rules}
 use Rattle.edit_store.proofs.put_offset.Goals as goal
 
 pub returns-in-Single : goal.returns-in-Single

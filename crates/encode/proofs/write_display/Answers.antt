@@ -1,9 +1,8 @@
 -- `write_display` meets its contract: its stores, one after the other, are those of `display_bytes`.
-use mathlib.Core.Path.{◌≡◌, ◌∙◌}
+use mathlib.Core.Path.{◌≡◌}
 use mir.Syntax.{w32}
 use mir.Val.{to_z, of_z}
 use Rattle.field.proofs.Stores.{sets_split, length-bytes_of, length-padded}
-use Rattle.header.specs.declared.Display.{Display}
 use Rattle.encode.specs.Encode.{display_bytes}
 use borrow.Author.Rules.{rules}
 use Rattle.encode.proofs.write_display.Goals as goal
@@ -12,7 +11,7 @@ pub returns : goal.returns
 unfolding display_bytes
 returns c =
     let g =
-        c.args.g in
+    c.args.g in
     let glmax-same : to_z w32 (of_z w32 g.glmax) ≡ g.glmax = search rules in
     let glmin-same : to_z w32 (of_z w32 g.glmin) ≡ g.glmin = search rules in
     rw (

@@ -2,7 +2,6 @@
 use Rattle.field.proofs.Stores.{sets_split, length_i16s}
 use Rattle.encode.specs.Encode.{encode, dim_bytes}
 use Rattle.encode.proofs.Widths.{length_key, length_intent, length_scale, length_display, length_quatern}
-use borrow.Author.Rules.{rules}
 use Rattle.encode.proofs.write_header.Goals as goal
 
 pub returns : goal.returns

@@ -1,9 +1,8 @@
 -- `write_intent` meets its contract: its stores, one after the other, are those of `intent_bytes`.
-use mathlib.Core.Path.{◌≡◌, ◌∙◌}
+use mathlib.Core.Path.{◌≡◌}
 use mir.Syntax.{w16}
 use mir.Val.{to_z, of_z}
 use Rattle.field.proofs.Stores.{sets_split, length-bytes_of}
-use Rattle.header.specs.declared.Intent.{Intent}
 use Rattle.encode.specs.Encode.{intent_bytes}
 use borrow.Author.Rules.{rules}
 use Rattle.encode.proofs.write_intent.Goals as goal
@@ -12,7 +11,7 @@ pub returns : goal.returns
 unfolding intent_bytes
 returns c =
     let g =
-        c.args.g in
+    c.args.g in
     let intent-code-same : to_z w16 (of_z w16 g.intent_code) ≡ g.intent_code = search rules in
     let datatype-same : to_z w16 (of_z w16 g.datatype) ≡ g.datatype = search rules in
     let bitpix-same : to_z w16 (of_z w16 g.bitpix) ≡ g.bitpix = search rules in

@@ -3,7 +3,6 @@ use mathlib.Core.Path.{◌≡◌}
 use mir.Syntax.{w16}
 use mir.Val.{to_z, of_z}
 use Rattle.field.proofs.Stores.{sets_split, length-bytes_of}
-use Rattle.header.specs.declared.Quatern.{Quatern}
 use Rattle.encode.specs.Encode.{quatern_bytes}
 use borrow.Author.Rules.{rules}
 use Rattle.encode.proofs.write_quatern.Goals as goal

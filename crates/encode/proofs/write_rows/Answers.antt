@@ -1,7 +1,6 @@
 -- `write_rows` meets its contract: its stores, one after the other, are those of `rows_bytes`.
 use Rattle.field.proofs.Stores.{sets_split, length-padded, length_u32s}
 use Rattle.encode.specs.Encode.{rows_bytes}
-use borrow.Author.Rules.{rules}
 use Rattle.encode.proofs.write_rows.Goals as goal
 
 pub returns : goal.returns

@@ -3,7 +3,6 @@ use mathlib.Core.Path.{◌≡◌}
 use mir.Syntax.{w16}
 use mir.Val.{to_z, of_z}
 use Rattle.field.proofs.Stores.{sets_split, length-bytes_of, length_u32s}
-use Rattle.header.specs.declared.Scale.{Scale}
 use Rattle.encode.specs.Encode.{scale_bytes}
 use borrow.Author.Rules.{rules}
 use Rattle.encode.proofs.write_scale.Goals as goal
@@ -12,7 +11,7 @@ pub returns : goal.returns
 unfolding scale_bytes
 returns c =
     let g =
-        c.args.g in
+    c.args.g in
     let slice-end-same : to_z w16 (of_z w16 g.slice_end) ≡ g.slice_end = search rules in
     rw (
       c.put_byte-2.ensures,

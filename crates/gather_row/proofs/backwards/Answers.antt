@@ -1,13 +1,12 @@
 -- `backwards` meets its contract: each turn writes the voxels of one line more, right behind those that stand.
-use mathlib.Core.Path.{◌≡◌, refl, ap, ◌∙◌}
+use mathlib.Core.Path.{refl, ap, ◌∙◌}
 use mathlib.Core.List.{[]}
-use Prim.Native.Nat.{ℕ, ◌+◌, ◌-◌, ◌*◌, ◌/◌}
+use Prim.Native.Nat.{ℕ, ◌+◌, ◌-◌, ◌*◌}
 use native.Mathlib.Omega.{arith}
 use lib.ListN.{length}
-use borrow.Author.Rules.{rules}
 use Rattle.gather_row.specs.Gather.{reach, gathered}
 use Rattle.gather_row.proofs.Series.{series_same}
-use Rattle.gather_row.proofs.Progress.{Progress, progress_start, progress_room_for, progress_more, progress_done}
+use Rattle.gather_row.proofs.Progress.{progress_start, progress_room_for, progress_more, progress_done}
 use Rattle.gather_row.proofs.Places.{gathered_snoc, inside_from}
 use Rattle.gather_row.proofs.Lines.{back_of, is_back, cut_back}
 use Rattle.gather_row.proofs.backwards.Goals as goal

@@ -1,5 +1,4 @@
 -- `by_width` meets its contract: a constant stands for the width that it is.
-use borrow.Author.Rules.{rules}
 use Rattle.gather_row.proofs.by_width.Goals as goal
 
 pub one_by_one-requires : goal.one_by_one-requires

@@ -1,10 +1,7 @@
 -- `copy_run` meets its contract: each turn writes a line more, and the rest follows.
 use mathlib.Core.Path.{◌≡◌, refl, sym}
-use Prim.Native.Nat.{◌+◌, ◌-◌, ◌≤◌}
+use Prim.Native.Nat.{◌+◌, ◌-◌}
 use native.Mathlib.Omega.{arith}
-use lib.ListN.{length, take, drop}
-use borrow.Author.Rules.{rules}
-use Rattle.buffer.specs.Put.{put}
 use Rattle.buffer.proofs.Laws.{put_nil}
 use Rattle.gather_row.proofs.Places.{run_next}
 use Rattle.gather_row.proofs.copy_run.Goals as goal

@@ -1,7 +1,6 @@
 -- `copy_voxel` meets its contract: what goes into the array comes out of it.
 use Prim.Native.Nat.{◌+◌, ◌-◌}
 use native.Mathlib.Omega.{arith}
-use borrow.Author.Rules.{rules}
 use Rattle.gather_row.proofs.Places.{by_way_of}
 use Rattle.gather_row.proofs.copy_voxel.Goals as goal
 

@@ -6,7 +6,6 @@ use lib.ListN.{length}
 use Rattle.gather_row.specs.Gather.{downwards}
 use Rattle.gather_row.proofs.Places.{inside_some}
 use Rattle.gather_row.proofs.Lines.{inside_copy, inside_whole, gathered_copy}
-use borrow.Author.Rules.{rules}
 use Rattle.gather_row.proofs.line_back.Goals as goal
 
 pub overflow_add-end : goal.overflow_add-end

@@ -1,13 +1,10 @@
 -- `one_by_one` meets its contract: each turn writes the voxel at the place right behind those that stand, and goes on to the next place.
-use mathlib.Core.Path.{◌≡◌, sym, ap, ◌∙◌}
+use mathlib.Core.Path.{◌≡◌}
 use mathlib.Core.List.{[]}
-use Prim.Native.Nat.{ℕ, ◌+◌, ◌-◌, ◌≤◌}
-use native.Mathlib.Omega.{arith}
-use lib.ListN.{length, take, drop}
-use borrow.Author.Rules.{rules}
+use Prim.Native.Nat.{◌+◌, ◌-◌, ◌≤◌}
+use lib.ListN.{length}
 use Rattle.gather_row.specs.Gather.{reach, gathered}
-use Rattle.gather_row.proofs.Progress.{Progress, progress_start, progress_room, progress_next, progress_done}
-use Rattle.gather_row.proofs.Places.{gathered_snoc, gathered_none, inside_line, inside_some, length_none, reach_next}
+use Rattle.gather_row.proofs.Progress.{Progress}
 use Rattle.gather_row.proofs.one_by_one.Given as goal
 
 abbrev pub invariant-loop-j : goal.invariant-loop-j

@@ -1,6 +1,5 @@
 -- `reversed` meets its contract: a constant stands for the width that it is.
 use native.Mathlib.Omega.{arith}
-use borrow.Author.Rules.{rules}
 use Rattle.gather_row.proofs.reversed.Goals as goal
 
 pub backwards-requires : goal.backwards-requires

@@ -1,7 +1,6 @@
 -- `side_by_side` meets its contract: the voxels of such an axis are one run of the source.
 use native.Mathlib.Omega.{arith}
 use lib.ListN.{length}
-use borrow.Author.Rules.{rules}
 use Rattle.gather_row.proofs.Places.{gathered_side, inside_side, length-row}
 use Rattle.gather_row.proofs.side_by_side.Goals as goal
 

@@ -5,7 +5,6 @@ use lib.ListN.{get_or-eq_default}
 use lib.IntN.{pos}
 use mir.Syntax.{w16}
 use mir.Facts.{to_z-of_z}
-use borrow.Author.Rules.{rules}
 use Rattle.number.specs.Natural.{natural_of}
 use Rattle.grid.proofs.axis_length.Goals as goal
 

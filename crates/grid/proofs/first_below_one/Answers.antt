@@ -1,10 +1,9 @@
 -- `grid::first_below_one` meets its contract: none of dim[1] to dim[i] is below 1, and the first that is stays the first.
 use mathlib.Core.Path.{◌≡◌, refl, sym, ◌∙◌}
 use mathlib.Core.Bool.{true, false}
-use Prim.Native.Nat.{suc, ◌-◌, ◌≤◌}
+use Prim.Native.Nat.{suc}
 use native.Mathlib.Omega.{arith}
 use native.Mathlib.Numerals.{add-one}
-use borrow.Author.Rules.{rules}
 use borrow.Author.Tests.{le-ltb, lt-ltb}
 use Rattle.number.specs.Natural.{natural_of}
 use Rattle.grid.specs.Axes.{dim_at, below_one, first_below}

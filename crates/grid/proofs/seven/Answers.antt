@@ -1,9 +1,7 @@
 -- `grid::seven` meets its contract: after k turns the array has the lengths of dim[1] to dim[k], and 1 past them.
 use mathlib.Core.Path.{◌≡◌, refl}
-use Prim.Native.Nat.{◌-◌, ◌≤◌}
 use native.Mathlib.Omega.{arith}
 use native.Mathlib.Numerals.{add-one}
-use borrow.Author.Rules.{rules}
 use Rattle.grid.specs.Axes.{axes, seven_axes}
 use Rattle.grid.proofs.Axes.{seven_next}
 use Rattle.grid.proofs.seven.Goals as goal

@@ -2,7 +2,6 @@
 use Prim.Native.Nat.{ℕ}
 use mathlib.Core.Path.{◌∙◌, ap}
 use mathlib.Core.List.{List}
-use borrow.Author.Rules.{rules}
 use Rattle.header.specs.Fields.{header_of}
 use Rattle.header.proofs.Front.{header_front}
 use Rattle.header.proofs.parse.Goals as goal

@@ -2,7 +2,6 @@
 use mathlib.Core.Bool.{false}
 use Rattle.grid.specs.Sizes.{no_sizes}
 use Rattle.header.specs.Fields.{header_of}
-use borrow.Author.Rules.{rules}
 use Rattle.header.proofs.parse_front.Goals as goal
 
 pub returns : goal.returns

@@ -1,7 +1,6 @@
 -- `check_end` meets its contract: rule 11, then rule 12.
 use mathlib.Core.Path.{sym, ◌∙◌}
 use Rattle.refusal.specs.Table.{verdict}
-use borrow.Author.Rules.{rules}
 use Rattle.layout.proofs.check_end.Goals as goal
 
 pub returns-then-cut_short : goal.returns-then-cut_short

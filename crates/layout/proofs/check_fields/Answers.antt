@@ -1,11 +1,9 @@
 -- `check_fields` meets its contract: rules 5 to 10, then 11 and 12, by the laws of proofs/Checking.antt.
 use mathlib.Core.Path.{◌≡◌, sym, ◌∙◌}
 use native.Mathlib.Omega.{arith}
-use Rattle.rules.specs.declared.Shape.{Shape}
 use Rattle.rules.specs.Rules.{judged_of}
 use Rattle.layout.specs.File.{shape_in}
 use Rattle.layout.proofs.Checking.{began, began_long, checks_fields, checks_end, checks_all}
-use borrow.Author.Rules.{rules}
 use Rattle.layout.proofs.check_fields.Goals as goal
 
 pub shape_in-requires : goal.shape_in-requires

@@ -1,7 +1,6 @@
 -- `check_in` meets its contract: rules 1 to 4, and then the rest.
 use mathlib.Core.Path.{sym, ◌∙◌}
 use Rattle.layout.proofs.Checking.{checks_start}
-use borrow.Author.Rules.{rules}
 use Rattle.layout.proofs.check_in.Goals as goal
 
 pub check_fields-requires : goal.check_fields-requires

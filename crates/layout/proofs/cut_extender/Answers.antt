@@ -1,5 +1,4 @@
 -- `cut_extender` meets its contract: only a pair is asked.
-use borrow.Author.Rules.{rules}
 use Rattle.layout.proofs.cut_extender.Goals as goal
 
 pub returns-in-Pair : goal.returns-in-Pair

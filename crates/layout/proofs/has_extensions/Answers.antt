@@ -1,6 +1,5 @@
 -- `has_extensions` meets its contract: it asks the extender's first byte.
 use Rattle.layout.specs.File.{has_extensions}
-use borrow.Author.Rules.{rules}
 use Rattle.layout.proofs.has_extensions.Goals as goal
 
 pub returns : goal.returns

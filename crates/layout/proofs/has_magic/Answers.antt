@@ -1,6 +1,5 @@
 -- `has_magic` meets its contract: each kind's four bytes.
 use Rattle.layout.specs.File.{has_magic}
-use borrow.Author.Rules.{rules}
 use Rattle.layout.proofs.has_magic.Goals as goal
 
 pub returns-in-Single : goal.returns-in-Single

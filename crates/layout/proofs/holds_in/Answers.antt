@@ -2,7 +2,6 @@
 use mir.Syntax.{w16}
 use mir.ValLaws.{to_z-of_z}
 use Rattle.layout.specs.File.{holds_in}
-use borrow.Author.Rules.{rules}
 use Rattle.layout.proofs.holds_in.Goals as goal
 
 pub returns : goal.returns

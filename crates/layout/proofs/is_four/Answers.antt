@@ -2,7 +2,6 @@
 use Prim.Native.Nat.{ℕ, ◌<◌}
 use mathlib.Core.Path.{refl}
 use mathlib.Core.List.{[], ◌∷◌}
-use borrow.Author.Rules.{rules}
 use lib.ListN.{get_or}
 use Rattle.field.proofs.Inverse.{Bytes, none, one}
 use Rattle.layout.proofs.Starting.{same_word}

@@ -1,7 +1,6 @@
 -- `kind_of` meets its contract: a single file by its magic, and else a pair.
 use mathlib.Core.Path.{sym, ◌∙◌}
 use Rattle.layout.specs.File.{kind_of}
-use borrow.Author.Rules.{rules}
 use Rattle.layout.proofs.kind_of.Goals as goal
 
 pub returns-then-has_magic : goal.returns-then-has_magic

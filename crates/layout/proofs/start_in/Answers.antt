@@ -1,11 +1,8 @@
 -- `start_in` meets its contract: rules 1 and 2, and rules 3 and 4 in the order in which rule 2 passes.
-use Prim.Native.Nat.{ℕ}
 use mathlib.Core.Path.{sym, ◌∙◌}
-use mathlib.Core.List.{List}
 use native.Mathlib.Omega.{arith}
 use Rattle.layout.specs.File.{order_of}
 use Rattle.layout.proofs.Starting.{starts_1, starts_2}
-use borrow.Author.Rules.{rules}
 use Rattle.layout.proofs.start_in.Goals as goal
 
 pub returns-then-len-lt348 : goal.returns-then-len-lt348

@@ -1,7 +1,6 @@
 -- `line_by` meets its contract: the file's refusal, or its line.
 use mathlib.Core.Path.{sym, ◌∙◌}
 use Rattle.line.proofs.Calls.{lines_hidden}
-use borrow.Author.Rules.{rules}
 use Rattle.line.proofs.line_by.Goals as goal
 
 pub line_shown-requires : goal.line_shown-requires

@@ -1,8 +1,6 @@
 -- `line_in` meets its contract: what the offset's decoder answers, by rules 8 and 9, and else the rest.
 use mathlib.Core.Path.{sym, ◌∙◌}
-use native.Mathlib.Omega.{arith}
 use Rattle.line.proofs.Calls.{record_refused, record_copies}
-use borrow.Author.Rules.{rules}
 use Rattle.line.proofs.line_in.Goals as goal
 
 pub returns-in-Refused : goal.returns-in-Refused

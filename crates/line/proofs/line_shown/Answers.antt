@@ -5,12 +5,10 @@ use mir.Syntax.{w16}
 use mir.Val.{to_z, of_z}
 use mir.ValLaws.{to_z-of_z}
 use Rattle.rules.specs.declared.Image.{Image}
-use Rattle.rules.specs.declared.Shape.{Shape}
 use Rattle.layout.specs.File.{shape_in}
 use Rattle.outline.proofs.Outlines.{shown_long, shown_measured}
 use Rattle.by_file.proofs.Shown as shown
 use Rattle.line.proofs.Calls.{lines_shown}
-use borrow.Author.Rules.{rules}
 use Rattle.line.proofs.line_shown.Goals as goal
 
 pub dims-dim-requires : goal.dims-dim-requires

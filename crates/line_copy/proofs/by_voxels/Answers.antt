@@ -1,11 +1,11 @@
 -- `by_voxels` meets its contract: after k turns the first k voxels stand in the buffer.
-use Prim.Native.Nat.{ℕ, ◌+◌, ◌-◌, ◌<◌}
+use Prim.Native.Nat.{ℕ, ◌+◌, ◌<◌}
 use mathlib.Core.Path.{◌≡◌, ap, ◌∙◌}
 use mathlib.Core.List.{List}
 use native.Mathlib.Omega.{arith}
 use lib.ListN.{length}
 use borrow.Author.Rules.{rules}
-use Rattle.gather_row.proofs.Progress.{Progress, progress_start, progress_room, progress_next, progress_done}
+use Rattle.gather_row.proofs.Progress.{progress_start, progress_room, progress_next, progress_done}
 use Rattle.voxel.specs.declared.Located.{Located}
 use Rattle.voxel.specs.Steps.{stepped_by}
 use Rattle.by_file.specs.Files.{part_of}

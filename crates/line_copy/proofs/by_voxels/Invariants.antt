@@ -1,16 +1,10 @@
 -- `by_voxels` meets its contract: after k turns the first k voxels stand in the buffer.
-use Prim.Native.Nat.{ℕ, ◌+◌, ◌-◌, ◌<◌}
-use mathlib.Core.Path.{◌≡◌, ap, ◌∙◌}
-use mathlib.Core.List.{List}
-use native.Mathlib.Omega.{arith}
-use lib.ListN.{length}
-use borrow.Author.Rules.{rules}
-use Rattle.gather_row.proofs.Progress.{Progress, progress_start, progress_room, progress_next, progress_done}
-use Rattle.voxel.specs.declared.Located.{Located}
+use Prim.Native.Nat.{◌-◌}
+use mathlib.Core.Path.{◌≡◌}
+use Rattle.gather_row.proofs.Progress.{Progress}
 use Rattle.voxel.specs.Steps.{stepped_by}
 use Rattle.by_file.specs.Files.{part_of}
 use Rattle.line_plan.specs.Line.{with_number, count_along}
-use Rattle.line_copy.proofs.Engines.{part_holds, line_room, line_series}
 use Rattle.line_copy.proofs.by_voxels.Given as goal
 
 abbrev pub invariant-loop-k : goal.invariant-loop-k

@@ -3,7 +3,6 @@ use mathlib.Core.Path.{refl}
 use native.Mathlib.Omega.{arith}
 use lib.ListN.{length}
 use Rattle.line_copy.proofs.Engines.{line_room, course_inside, course_gathers}
-use borrow.Author.Rules.{rules}
 use Rattle.line_copy.proofs.copy.Goals as goal
 
 pub by_steps-requires : goal.by_steps-requires

@@ -5,8 +5,6 @@ use native.Mathlib.Nat.{add-zero}
 use native.Mathlib.Omega.{arith}
 use lib.ListN.{length, take, drop, length-take, length-drop}
 use Rattle.buffer.proofs.Laws.{put_nil}
-use Rattle.voxel.specs.declared.Extent.{Extent}
-use borrow.Author.Rules.{rules}
 use Rattle.line_copy.proofs.copy_located.Goals as goal
 
 pub overflow_add-end : goal.overflow_add-end

@@ -17,28 +17,28 @@ pub copy-requires : goal.copy-requires
 copy-requires c =
     let seven : length c.args.v.sizes.steps ≡ 7 = search rules in
     let passed : let a = c.args in (volume_verdict a.v (length a.file.now) (length a.image.now) a.axis a.index (length a.out.now) ≡ Accepted) × (course_of a.v a.axis a.index ≡ c.in-Along.course) =
-        let a = c.args in
-        planned_along a.v a.file.now a.image.now a.axis a.index a.out.now _
-        (sym c.plan-planned.ensures ∙ c.in-Along.is) in
+    let a = c.args in
+    planned_along a.v a.file.now a.image.now a.axis a.index a.out.now _
+    (sym c.plan-planned.ensures ∙ c.in-Along.is) in
     let held : (k : Kind) → c.args.v.kind ≡ k → let a = c.args in holder a.v.kind a.file.now a.image.now ≡ holder k a.file.now a.image.now = λ k e. ap (λ (k : Kind). holder k c.args.file.now c.args.image.now) e in
     let lies : (k : Kind) → c.args.v.kind ≡ k → let a = c.args in Lies a.v (length (holder k a.file.now a.image.now)) (length a.image.now) a.axis a.index (length a.out.now) = λ k e.
-        let a = c.args in
-        subst (λ (s : List ℕ). Lies a.v (length s) (length a.image.now) a.axis a.index (length a.out.now)) (held k e)
-        (line_lies a.v a.file.now a.image.now a.axis a.index (length a.out.now) seven passed.0) in
+    let a = c.args in
+    subst (λ (s : List ℕ). Lies a.v (length s) (length a.image.now) a.axis a.index (length a.out.now)) (held k e)
+    (line_lies a.v a.file.now a.image.now a.axis a.index (length a.out.now) seven passed.0) in
     record { lies = lies Single c.in-Single.is; index_value = passed.1 }
 
 pub copy-requires-in-Pair : goal.copy-requires-in-Pair
 copy-requires-in-Pair c =
     let seven : length c.args.v.sizes.steps ≡ 7 = search rules in
     let passed : let a = c.args in (volume_verdict a.v (length a.file.now) (length a.image.now) a.axis a.index (length a.out.now) ≡ Accepted) × (course_of a.v a.axis a.index ≡ c.in-Along.course) =
-        let a = c.args in
-        planned_along a.v a.file.now a.image.now a.axis a.index a.out.now _
-        (sym c.plan-planned.ensures ∙ c.in-Along.is) in
+    let a = c.args in
+    planned_along a.v a.file.now a.image.now a.axis a.index a.out.now _
+    (sym c.plan-planned.ensures ∙ c.in-Along.is) in
     let held : (k : Kind) → c.args.v.kind ≡ k → let a = c.args in holder a.v.kind a.file.now a.image.now ≡ holder k a.file.now a.image.now = λ k e. ap (λ (k : Kind). holder k c.args.file.now c.args.image.now) e in
     let lies : (k : Kind) → c.args.v.kind ≡ k → let a = c.args in Lies a.v (length (holder k a.file.now a.image.now)) (length a.image.now) a.axis a.index (length a.out.now) = λ k e.
-        let a = c.args in
-        subst (λ (s : List ℕ). Lies a.v (length s) (length a.image.now) a.axis a.index (length a.out.now)) (held k e)
-        (line_lies a.v a.file.now a.image.now a.axis a.index (length a.out.now) seven passed.0) in
+    let a = c.args in
+    subst (λ (s : List ℕ). Lies a.v (length s) (length a.image.now) a.axis a.index (length a.out.now)) (held k e)
+    (line_lies a.v a.file.now a.image.now a.axis a.index (length a.out.now) seven passed.0) in
     record { lies = lies Pair c.in-Pair.is; index_value = passed.1 }
 
 pub returns-in-Unlined : goal.returns-in-Unlined
@@ -50,9 +50,9 @@ returns-in-Unlined c =
 pub returns-in-Single : goal.returns-in-Single
 returns-in-Single c =
     let passed : let a = c.args in (volume_verdict a.v (length a.file.now) (length a.image.now) a.axis a.index (length a.out.now) ≡ Accepted) × (course_of a.v a.axis a.index ≡ c.in-Along.course) =
-        let a = c.args in
-        planned_along a.v a.file.now a.image.now a.axis a.index a.out.now _
-        (sym c.plan-planned.ensures ∙ c.in-Along.is) in
+    let a = c.args in
+    planned_along a.v a.file.now a.image.now a.axis a.index a.out.now _
+    (sym c.plan-planned.ensures ∙ c.in-Along.is) in
     let held : (k : Kind) → c.args.v.kind ≡ k → let a = c.args in holder a.v.kind a.file.now a.image.now ≡ holder k a.file.now a.image.now = λ k e. ap (λ (k : Kind). holder k c.args.file.now c.args.image.now) e in
     let a = c.args in
     copies_all a.v a.file.now a.image.now a.axis a.index a.out.now _ _ a.file.now passed.0
@@ -61,9 +61,9 @@ returns-in-Single c =
 pub returns-in-Pair : goal.returns-in-Pair
 returns-in-Pair c =
     let passed : let a = c.args in (volume_verdict a.v (length a.file.now) (length a.image.now) a.axis a.index (length a.out.now) ≡ Accepted) × (course_of a.v a.axis a.index ≡ c.in-Along.course) =
-        let a = c.args in
-        planned_along a.v a.file.now a.image.now a.axis a.index a.out.now _
-        (sym c.plan-planned.ensures ∙ c.in-Along.is) in
+    let a = c.args in
+    planned_along a.v a.file.now a.image.now a.axis a.index a.out.now _
+    (sym c.plan-planned.ensures ∙ c.in-Along.is) in
     let held : (k : Kind) → c.args.v.kind ≡ k → let a = c.args in holder a.v.kind a.file.now a.image.now ≡ holder k a.file.now a.image.now = λ k e. ap (λ (k : Kind). holder k c.args.file.now c.args.image.now) e in
     let a = c.args in
     copies_all a.v a.file.now a.image.now a.axis a.index a.out.now _ _ a.image.now passed.0

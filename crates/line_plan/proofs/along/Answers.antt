@@ -18,12 +18,11 @@ returns-then-axis-n c =
     c.unlined.ensures ∙ own_axis a.v a.axis a.index a.out (rw c.axis_count-n.ensures.0 at c.if-axis-n.true)
 
 pub bytes_before-before-requires : goal.bytes_before-before-requires
-bytes_before-before-requires c =
-    (
-      omega (arith, c.axis_count-n.ensures.0, axes_few (dim_at c.args.v.dim 0) c.requires.0),
-      search rules,
-      search rules,
-    )
+bytes_before-before-requires c = (
+  omega (arith, c.axis_count-n.ensures.0, axes_few (dim_at c.args.v.dim 0) c.requires.0),
+  search rules,
+  search rules,
+)
 
 pub returns-then-before : goal.returns-then-before
 returns-then-before c =
@@ -35,17 +34,17 @@ pub course_of-requires : goal.course_of-requires
 course_of-requires c =
     let answer : let a = c.args in Reaches (seven_axes a.v.dim (axis_count a.v.dim)) a.v.sizes.steps a.index c.bytes_before-before.result = rw c.axis_count-n.ensures.0 at c.bytes_before-before.ensures in
     let passed : let a = c.args in line_outside a.v.dim a.axis a.index ≡ false =
-        let a = c.args in
-        own_passed a.v a.axis a.index a.out (rw c.axis_count-n.ensures.0 at c.if-axis-n.false)
-        (reached_inside answer c.if-before.false) in
+    let a = c.args in
+    own_passed a.v a.axis a.index a.out (rw c.axis_count-n.ensures.0 at c.if-axis-n.false)
+    (reached_inside answer c.if-before.false) in
     (c.requires.0, c.requires.1, passed, answer)
 
 pub returns : goal.returns
 returns c =
     let answer : let a = c.args in Reaches (seven_axes a.v.dim (axis_count a.v.dim)) a.v.sizes.steps a.index c.bytes_before-before.result = rw c.axis_count-n.ensures.0 at c.bytes_before-before.ensures in
     let passed : let a = c.args in line_outside a.v.dim a.axis a.index ≡ false =
-        let a = c.args in
-        own_passed a.v a.axis a.index a.out (rw c.axis_count-n.ensures.0 at c.if-axis-n.false)
-        (reached_inside answer c.if-before.false) in
+    let a = c.args in
+    own_passed a.v a.axis a.index a.out (rw c.axis_count-n.ensures.0 at c.if-axis-n.false)
+    (reached_inside answer c.if-before.false) in
     let a = c.args in
     c.course_of.ensures ∙ own_then a.v a.axis a.index a.out passed

@@ -44,9 +44,9 @@ pub overflow_mul-last : goal.overflow_mul-last
 overflow_mul-last c =
     let number_of = c.of_axis-i.result in
     let product : (c.axis_length-count.result - 1 - number_of) * c.limited.result ≤ 32766 * (image_limit + 1) =
-        let e = c.limited.ensures in
-        let l = c.axis_length-count.ensures.1 in
-        mul-le-mul {n₂ = 32766} {m₂ = image_limit + 1} (omega arith) (omega arith) in
+    let e = c.limited.ensures in
+    let l = c.axis_length-count.ensures.1 in
+    mul-le-mul {n₂ = 32766} {m₂ = image_limit + 1} (omega arith) (omega arith) in
     record { fits = omega (arith, product) }
 
 pub overflow_add-last : goal.overflow_add-last
@@ -54,9 +54,9 @@ overflow_add-last c =
     let inside : Inside c.args.v.dim c.args.axis c.args.index = line_inside c.args.v.dim c.args.axis c.args.index c.requires.0 c.requires.2 in
     let number_of = c.of_axis-i.result in
     let product : (c.axis_length-count.result - 1 - number_of) * c.limited.result ≤ 32766 * (image_limit + 1) =
-        let e = c.limited.ensures in
-        let l = c.axis_length-count.ensures.1 in
-        mul-le-mul {n₂ = 32766} {m₂ = image_limit + 1} (omega arith) (omega arith) in
+    let e = c.limited.ensures in
+    let l = c.axis_length-count.ensures.1 in
+    mul-le-mul {n₂ = 32766} {m₂ = image_limit + 1} (omega arith) (omega arith) in
     record { fits = omega (arith, product, c.requires.3.small inside.given) }
 
 pub returns-then-strays : goal.returns-then-strays
@@ -66,13 +66,13 @@ returns-then-strays c =
     let number : number_of ≡ get_or c.args.index (c.args.axis - 1) 0 = c.of_axis-i.ensures in
     let seven : length c.args.v.sizes.steps ≡ 7 = search rules in
     let strays-is : let a = c.args in strays a.v (last_along a.v a.axis a.index) ≡ c.strays.result =
-        let a = c.args in
-        let last = last_like a.v a.axis a.index seven inside a.before (c.requires.3.inside inside.given) in
-        let count = c.axis_length-count.ensures.0 in
-        let limit = c.limited.ensures ∙ ap capped c.of_axis-step.ensures in
-        let like = (λ j. capped (a.before + (count j - 1 - number j) * limit j)) ∙ last in
-        let far = bytes_before a.v.sizes.steps (last_along a.v a.axis a.index) in
-        sym (c.strays.ensures ∙ strays_like a.v.sizes.total (first_step a.v) _ far like) in
+    let a = c.args in
+    let last = last_like a.v a.axis a.index seven inside a.before (c.requires.3.inside inside.given) in
+    let count = c.axis_length-count.ensures.0 in
+    let limit = c.limited.ensures ∙ ap capped c.of_axis-step.ensures in
+    let like = (λ j. capped (a.before + (count j - 1 - number j) * limit j)) ∙ last in
+    let far = bytes_before a.v.sizes.steps (last_along a.v a.axis a.index) in
+    sym (c.strays.ensures ∙ strays_like a.v.sizes.total (first_step a.v) _ far like) in
     let a = c.args in
     c.unlined.ensures ∙ sized_far a.v a.axis a.index a.out (strays-is ∙ c.if-strays.true)
 
@@ -83,13 +83,13 @@ returns-then-bytes-gt-WIDEST c =
     let number : number_of ≡ get_or c.args.index (c.args.axis - 1) 0 = c.of_axis-i.ensures in
     let seven : length c.args.v.sizes.steps ≡ 7 = search rules in
     let strays-is : let a = c.args in strays a.v (last_along a.v a.axis a.index) ≡ c.strays.result =
-        let a = c.args in
-        let last = last_like a.v a.axis a.index seven inside a.before (c.requires.3.inside inside.given) in
-        let count = c.axis_length-count.ensures.0 in
-        let limit = c.limited.ensures ∙ ap capped c.of_axis-step.ensures in
-        let like = (λ j. capped (a.before + (count j - 1 - number j) * limit j)) ∙ last in
-        let far = bytes_before a.v.sizes.steps (last_along a.v a.axis a.index) in
-        sym (c.strays.ensures ∙ strays_like a.v.sizes.total (first_step a.v) _ far like) in
+    let a = c.args in
+    let last = last_like a.v a.axis a.index seven inside a.before (c.requires.3.inside inside.given) in
+    let count = c.axis_length-count.ensures.0 in
+    let limit = c.limited.ensures ∙ ap capped c.of_axis-step.ensures in
+    let like = (λ j. capped (a.before + (count j - 1 - number j) * limit j)) ∙ last in
+    let far = bytes_before a.v.sizes.steps (last_along a.v a.axis a.index) in
+    sym (c.strays.ensures ∙ strays_like a.v.sizes.total (first_step a.v) _ far like) in
     let kept : let a = c.args in strays a.v (last_along a.v a.axis a.index) ≡ false = strays-is ∙ c.if-strays.false in
     let a = c.args in
     c.unlined-then-bytes-gt-WIDEST.ensures ∙ sized_wide a.v a.axis a.index a.out kept c.if-bytes-gt-WIDEST.true
@@ -106,13 +106,13 @@ returns-then-out-count c =
     let number : number_of ≡ get_or c.args.index (c.args.axis - 1) 0 = c.of_axis-i.ensures in
     let seven : length c.args.v.sizes.steps ≡ 7 = search rules in
     let strays-is : let a = c.args in strays a.v (last_along a.v a.axis a.index) ≡ c.strays.result =
-        let a = c.args in
-        let last = last_like a.v a.axis a.index seven inside a.before (c.requires.3.inside inside.given) in
-        let count = c.axis_length-count.ensures.0 in
-        let limit = c.limited.ensures ∙ ap capped c.of_axis-step.ensures in
-        let like = (λ j. capped (a.before + (count j - 1 - number j) * limit j)) ∙ last in
-        let far = bytes_before a.v.sizes.steps (last_along a.v a.axis a.index) in
-        sym (c.strays.ensures ∙ strays_like a.v.sizes.total (first_step a.v) _ far like) in
+    let a = c.args in
+    let last = last_like a.v a.axis a.index seven inside a.before (c.requires.3.inside inside.given) in
+    let count = c.axis_length-count.ensures.0 in
+    let limit = c.limited.ensures ∙ ap capped c.of_axis-step.ensures in
+    let like = (λ j. capped (a.before + (count j - 1 - number j) * limit j)) ∙ last in
+    let far = bytes_before a.v.sizes.steps (last_along a.v a.axis a.index) in
+    sym (c.strays.ensures ∙ strays_like a.v.sizes.total (first_step a.v) _ far like) in
     let kept : let a = c.args in strays a.v (last_along a.v a.axis a.index) ≡ false = strays-is ∙ c.if-strays.false in
     let a = c.args in
     c.unlined-then-out-count.ensures
@@ -126,19 +126,19 @@ overflow_mul-past c =
     let number : number_of ≡ get_or c.args.index (c.args.axis - 1) 0 = c.of_axis-i.ensures in
     let seven : length c.args.v.sizes.steps ≡ 7 = search rules in
     let strays-is : let a = c.args in strays a.v (last_along a.v a.axis a.index) ≡ c.strays.result =
-        let a = c.args in
-        let last = last_like a.v a.axis a.index seven inside a.before (c.requires.3.inside inside.given) in
-        let count = c.axis_length-count.ensures.0 in
-        let limit = c.limited.ensures ∙ ap capped c.of_axis-step.ensures in
-        let like = (λ j. capped (a.before + (count j - 1 - number j) * limit j)) ∙ last in
-        let far = bytes_before a.v.sizes.steps (last_along a.v a.axis a.index) in
-        sym (c.strays.ensures ∙ strays_like a.v.sizes.total (first_step a.v) _ far like) in
+    let a = c.args in
+    let last = last_like a.v a.axis a.index seven inside a.before (c.requires.3.inside inside.given) in
+    let count = c.axis_length-count.ensures.0 in
+    let limit = c.limited.ensures ∙ ap capped c.of_axis-step.ensures in
+    let like = (λ j. capped (a.before + (count j - 1 - number j) * limit j)) ∙ last in
+    let far = bytes_before a.v.sizes.steps (last_along a.v a.axis a.index) in
+    sym (c.strays.ensures ∙ strays_like a.v.sizes.total (first_step a.v) _ far like) in
     let kept : let a = c.args in strays a.v (last_along a.v a.axis a.index) ≡ false = strays-is ∙ c.if-strays.false in
     let past : let a = c.args in (a.before ≡ bytes_before a.v.sizes.steps (with_number a.axis a.index 0) + number_of * step_of) × (a.before ≤ image_limit) =
-        let a = c.args in
-        let e = first_exact a.v a.axis a.index seven inside a.before (c.requires.3.inside inside.given) kept in
-        let first : ℕ = bytes_before a.v.sizes.steps (with_number a.axis a.index 0) in
-        (e.0 ∙ (λ j. first + sym number j * sym c.of_axis-step.ensures j), e.1) in
+    let a = c.args in
+    let e = first_exact a.v a.axis a.index seven inside a.before (c.requires.3.inside inside.given) kept in
+    let first : ℕ = bytes_before a.v.sizes.steps (with_number a.axis a.index 0) in
+    (e.0 ∙ (λ j. first + sym number j * sym c.of_axis-step.ensures j), e.1) in
     record { fits = omega (arith, past.0, past.1) }
 
 pub overflow_sub-result : goal.overflow_sub-result
@@ -149,19 +149,19 @@ overflow_sub-result c =
     let number : number_of ≡ get_or c.args.index (c.args.axis - 1) 0 = c.of_axis-i.ensures in
     let seven : length c.args.v.sizes.steps ≡ 7 = search rules in
     let strays-is : let a = c.args in strays a.v (last_along a.v a.axis a.index) ≡ c.strays.result =
-        let a = c.args in
-        let last = last_like a.v a.axis a.index seven inside a.before (c.requires.3.inside inside.given) in
-        let count = c.axis_length-count.ensures.0 in
-        let limit = c.limited.ensures ∙ ap capped c.of_axis-step.ensures in
-        let like = (λ j. capped (a.before + (count j - 1 - number j) * limit j)) ∙ last in
-        let far = bytes_before a.v.sizes.steps (last_along a.v a.axis a.index) in
-        sym (c.strays.ensures ∙ strays_like a.v.sizes.total (first_step a.v) _ far like) in
+    let a = c.args in
+    let last = last_like a.v a.axis a.index seven inside a.before (c.requires.3.inside inside.given) in
+    let count = c.axis_length-count.ensures.0 in
+    let limit = c.limited.ensures ∙ ap capped c.of_axis-step.ensures in
+    let like = (λ j. capped (a.before + (count j - 1 - number j) * limit j)) ∙ last in
+    let far = bytes_before a.v.sizes.steps (last_along a.v a.axis a.index) in
+    sym (c.strays.ensures ∙ strays_like a.v.sizes.total (first_step a.v) _ far like) in
     let kept : let a = c.args in strays a.v (last_along a.v a.axis a.index) ≡ false = strays-is ∙ c.if-strays.false in
     let past : let a = c.args in (a.before ≡ bytes_before a.v.sizes.steps (with_number a.axis a.index 0) + number_of * step_of) × (a.before ≤ image_limit) =
-        let a = c.args in
-        let e = first_exact a.v a.axis a.index seven inside a.before (c.requires.3.inside inside.given) kept in
-        let first : ℕ = bytes_before a.v.sizes.steps (with_number a.axis a.index 0) in
-        (e.0 ∙ (λ j. first + sym number j * sym c.of_axis-step.ensures j), e.1) in
+    let a = c.args in
+    let e = first_exact a.v a.axis a.index seven inside a.before (c.requires.3.inside inside.given) kept in
+    let first : ℕ = bytes_before a.v.sizes.steps (with_number a.axis a.index 0) in
+    (e.0 ∙ (λ j. first + sym number j * sym c.of_axis-step.ensures j), e.1) in
     omega (arith, past.0)
 
 pub overflow_add-result : goal.overflow_add-result
@@ -172,19 +172,19 @@ overflow_add-result c =
     let number : number_of ≡ get_or c.args.index (c.args.axis - 1) 0 = c.of_axis-i.ensures in
     let seven : length c.args.v.sizes.steps ≡ 7 = search rules in
     let strays-is : let a = c.args in strays a.v (last_along a.v a.axis a.index) ≡ c.strays.result =
-        let a = c.args in
-        let last = last_like a.v a.axis a.index seven inside a.before (c.requires.3.inside inside.given) in
-        let count = c.axis_length-count.ensures.0 in
-        let limit = c.limited.ensures ∙ ap capped c.of_axis-step.ensures in
-        let like = (λ j. capped (a.before + (count j - 1 - number j) * limit j)) ∙ last in
-        let far = bytes_before a.v.sizes.steps (last_along a.v a.axis a.index) in
-        sym (c.strays.ensures ∙ strays_like a.v.sizes.total (first_step a.v) _ far like) in
+    let a = c.args in
+    let last = last_like a.v a.axis a.index seven inside a.before (c.requires.3.inside inside.given) in
+    let count = c.axis_length-count.ensures.0 in
+    let limit = c.limited.ensures ∙ ap capped c.of_axis-step.ensures in
+    let like = (λ j. capped (a.before + (count j - 1 - number j) * limit j)) ∙ last in
+    let far = bytes_before a.v.sizes.steps (last_along a.v a.axis a.index) in
+    sym (c.strays.ensures ∙ strays_like a.v.sizes.total (first_step a.v) _ far like) in
     let kept : let a = c.args in strays a.v (last_along a.v a.axis a.index) ≡ false = strays-is ∙ c.if-strays.false in
     let past : let a = c.args in (a.before ≡ bytes_before a.v.sizes.steps (with_number a.axis a.index 0) + number_of * step_of) × (a.before ≤ image_limit) =
-        let a = c.args in
-        let e = first_exact a.v a.axis a.index seven inside a.before (c.requires.3.inside inside.given) kept in
-        let first : ℕ = bytes_before a.v.sizes.steps (with_number a.axis a.index 0) in
-        (e.0 ∙ (λ j. first + sym number j * sym c.of_axis-step.ensures j), e.1) in
+    let a = c.args in
+    let e = first_exact a.v a.axis a.index seven inside a.before (c.requires.3.inside inside.given) kept in
+    let first : ℕ = bytes_before a.v.sizes.steps (with_number a.axis a.index 0) in
+    (e.0 ∙ (λ j. first + sym number j * sym c.of_axis-step.ensures j), e.1) in
     record { fits = omega (arith, past.1, inside_limit c.args.v.kind c.args.v.offset 0 c.requires.1) }
 
 pub returns : goal.returns
@@ -195,19 +195,19 @@ returns c =
     let number : number_of ≡ get_or c.args.index (c.args.axis - 1) 0 = c.of_axis-i.ensures in
     let seven : length c.args.v.sizes.steps ≡ 7 = search rules in
     let strays-is : let a = c.args in strays a.v (last_along a.v a.axis a.index) ≡ c.strays.result =
-        let a = c.args in
-        let last = last_like a.v a.axis a.index seven inside a.before (c.requires.3.inside inside.given) in
-        let count = c.axis_length-count.ensures.0 in
-        let limit = c.limited.ensures ∙ ap capped c.of_axis-step.ensures in
-        let like = (λ j. capped (a.before + (count j - 1 - number j) * limit j)) ∙ last in
-        let far = bytes_before a.v.sizes.steps (last_along a.v a.axis a.index) in
-        sym (c.strays.ensures ∙ strays_like a.v.sizes.total (first_step a.v) _ far like) in
+    let a = c.args in
+    let last = last_like a.v a.axis a.index seven inside a.before (c.requires.3.inside inside.given) in
+    let count = c.axis_length-count.ensures.0 in
+    let limit = c.limited.ensures ∙ ap capped c.of_axis-step.ensures in
+    let like = (λ j. capped (a.before + (count j - 1 - number j) * limit j)) ∙ last in
+    let far = bytes_before a.v.sizes.steps (last_along a.v a.axis a.index) in
+    sym (c.strays.ensures ∙ strays_like a.v.sizes.total (first_step a.v) _ far like) in
     let kept : let a = c.args in strays a.v (last_along a.v a.axis a.index) ≡ false = strays-is ∙ c.if-strays.false in
     let past : let a = c.args in (a.before ≡ bytes_before a.v.sizes.steps (with_number a.axis a.index 0) + number_of * step_of) × (a.before ≤ image_limit) =
-        let a = c.args in
-        let e = first_exact a.v a.axis a.index seven inside a.before (c.requires.3.inside inside.given) kept in
-        let first : ℕ = bytes_before a.v.sizes.steps (with_number a.axis a.index 0) in
-        (e.0 ∙ (λ j. first + sym number j * sym c.of_axis-step.ensures j), e.1) in
+    let a = c.args in
+    let e = first_exact a.v a.axis a.index seven inside a.before (c.requires.3.inside inside.given) kept in
+    let first : ℕ = bytes_before a.v.sizes.steps (with_number a.axis a.index 0) in
+    (e.0 ∙ (λ j. first + sym number j * sym c.of_axis-step.ensures j), e.1) in
     let a = c.args in
     let there = rw c.axis_length-count.ensures.0 at c.if-out-count.false in
     let lowest : ℕ = bytes_before a.v.sizes.steps (with_number a.axis a.index 0) in

@@ -4,7 +4,6 @@ use mathlib.Core.Bool.{false}
 use Rattle.rules.specs.Rules.{offset_outside, cut_short}
 use Rattle.voxel.specs.Steps.{image_at, no_axes}
 use Rattle.line_plan.proofs.Judging.{gives_2, gives_9, gives_11, gives_16, gives_none}
-use borrow.Author.Rules.{rules}
 use Rattle.line_plan.proofs.judge.Goals as goal
 
 pub returns-then-no_axes : goal.returns-then-no_axes

@@ -1,7 +1,6 @@
 -- `plan` meets its contract: the rules up to 16, and then the others.
 use mathlib.Core.Path.{sym, ◌∙◌}
 use Rattle.line_plan.proofs.Judging.{place_passed, planned_then}
-use borrow.Author.Rules.{rules}
 use Rattle.line_plan.proofs.plan.Goals as goal
 
 pub along-requires : goal.along-requires

@@ -1,5 +1,4 @@
 -- `run` meets its contract: of a refused file nothing is drawn, and of an accepted one by its record.
-use borrow.Author.Rules.{rules}
 use Rattle.line_run.proofs.run.Goals as goal
 
 pub returns-in-Refused : goal.returns-in-Refused

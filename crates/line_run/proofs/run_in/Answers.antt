@@ -1,10 +1,7 @@
 -- `run_in` meets its contract: after k turns the first k lines are drawn.
-use Prim.Native.Nat.{◌-◌, ◌≤◌}
 use mathlib.Core.Path.{◌≡◌, refl}
 use native.Mathlib.Omega.{arith}
-use lib.ListN.{length}
-use borrow.Author.Rules.{rules}
-use Rattle.line_run.proofs.Drawn.{Drawn, drawn_none, drawn_next}
+use Rattle.line_run.proofs.Drawn.{drawn_none, drawn_next}
 use Rattle.line_run.proofs.run_in.Goals as goal
 
 pub loop-k-init : goal.loop-k-init

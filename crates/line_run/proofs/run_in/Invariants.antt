@@ -1,10 +1,8 @@
 -- `run_in` meets its contract: after k turns the first k lines are drawn.
 use Prim.Native.Nat.{◌-◌, ◌≤◌}
-use mathlib.Core.Path.{◌≡◌, refl}
-use native.Mathlib.Omega.{arith}
+use mathlib.Core.Path.{◌≡◌}
 use lib.ListN.{length}
-use borrow.Author.Rules.{rules}
-use Rattle.line_run.proofs.Drawn.{Drawn, drawn_none, drawn_next}
+use Rattle.line_run.proofs.Drawn.{Drawn}
 use Rattle.line_run.proofs.run_in.Given as goal
 
 abbrev pub invariant-loop-k : goal.invariant-loop-k

@@ -4,13 +4,11 @@ use Prim.Native.Nat.{◌+◌, ◌<◌}
 use mathlib.Core.Path.{◌≡◌, sym, ◌∙◌}
 use mathlib.Core.List.{[]}
 use native.Mathlib.Omega.{arith}
-use borrow.Author.Rules.{rules}
 use Rattle.extension.specs.declared.Step.TheVariants.{Extension}
-use Rattle.extension.specs.Walk.{extension_limit, step_of, extensions_in}
+use Rattle.extension.specs.Walk.{extension_limit, step_of}
 use Rattle.extension.specs.Listing.{listing_of}
-use Rattle.extension.proofs.Walks.{before}
 use Rattle.listing.proofs.Passed.{pass_none, pass_room, pass_end, pass_halt}
-use Rattle.listing.proofs.Filled.{Filled, fill_turn}
+use Rattle.listing.proofs.Filled.{fill_turn}
 use Rattle.listing.proofs.list.Goals as goal
 
 pub loop-x-init : goal.loop-x-init

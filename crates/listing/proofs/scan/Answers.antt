@@ -4,15 +4,13 @@ use Prim.Native.Nat.{◌<◌, ◌≤◌}
 use mathlib.Core.Path.{◌≡◌, refl, sym, ◌∙◌}
 use mathlib.Core.List.{[]}
 use native.Mathlib.Omega.{arith}
-use borrow.Author.Rules.{rules}
 use lib.ListN.{length, get_or, get_or-eq_default}
 use Rattle.extension.specs.declared.Step.TheVariants.{Extension}
 use Rattle.extension.specs.Walk.{step_of, listed, extensions_in}
 use Rattle.extension.specs.Listing.{no_span}
-use Rattle.extension.proofs.Walks.{before}
 use Rattle.listing.specs.declared.Scanned.TheVariants.{Counted}
 use Rattle.listing.proofs.Passed.{pass_none, pass_room, pass_end, pass_halt}
-use Rattle.listing.proofs.Filled.{Kept, keep_turn, span_room, span_reads}
+use Rattle.listing.proofs.Filled.{keep_turn, span_room, span_reads}
 use Rattle.listing.proofs.scan.Goals as goal
 
 pub loop-x-init : goal.loop-x-init
@@ -37,9 +35,9 @@ loop-x-preserved c =
 pub span_at-requires : goal.span_at-requires
 span_at-requires c =
     let all-passed : let a = c.args in extensions_in a.order a.stop a.file.now ≡ listed c.loop-x.invariant.so_far =
-        let e = c.new-walker.ensures in
-        (λ i. extensions_in (sym e.0 i) (sym e.1 i) c.args.file.now)
-        ∙ pass_end _ _ _ _ c.loop-x.invariant.passed (sym c.step_within-step.ensures ∙ c.in-End.is) in
+    let e = c.new-walker.ensures in
+    (λ i. extensions_in (sym e.0 i) (sym e.1 i) c.args.file.now)
+    ∙ pass_end _ _ _ _ c.loop-x.invariant.passed (sym c.step_within-step.ensures ∙ c.in-End.is) in
     let below : c.args.wanted < length c.loop-x.invariant.so_far = omega (arith, c.loop-x.invariant.passed.counted) in
     let f = c.loop-x.invariant in
     let a = c.args in
@@ -48,9 +46,9 @@ span_at-requires c =
 pub returns-then-wanted-count : goal.returns-then-wanted-count
 returns-then-wanted-count c =
     let all-passed : let a = c.args in extensions_in a.order a.stop a.file.now ≡ listed c.loop-x.invariant.so_far =
-        let e = c.new-walker.ensures in
-        (λ i. extensions_in (sym e.0 i) (sym e.1 i) c.args.file.now)
-        ∙ pass_end _ _ _ _ c.loop-x.invariant.passed (sym c.step_within-step.ensures ∙ c.in-End.is) in
+    let e = c.new-walker.ensures in
+    (λ i. extensions_in (sym e.0 i) (sym e.1 i) c.args.file.now)
+    ∙ pass_end _ _ _ _ c.loop-x.invariant.passed (sym c.step_within-step.ensures ∙ c.in-End.is) in
     let below : c.args.wanted < length c.loop-x.invariant.so_far = omega (arith, c.loop-x.invariant.passed.counted) in
     let f = c.loop-x.invariant in
     let a = c.args in
@@ -61,9 +59,9 @@ returns-then-wanted-count c =
 pub returns-in-End : goal.returns-in-End
 returns-in-End c =
     let all-passed : let a = c.args in extensions_in a.order a.stop a.file.now ≡ listed c.loop-x.invariant.so_far =
-        let e = c.new-walker.ensures in
-        (λ i. extensions_in (sym e.0 i) (sym e.1 i) c.args.file.now)
-        ∙ pass_end _ _ _ _ c.loop-x.invariant.passed (sym c.step_within-step.ensures ∙ c.in-End.is) in
+    let e = c.new-walker.ensures in
+    (λ i. extensions_in (sym e.0 i) (sym e.1 i) c.args.file.now)
+    ∙ pass_end _ _ _ _ c.loop-x.invariant.passed (sym c.step_within-step.ensures ∙ c.in-End.is) in
     let f = c.loop-x.invariant in
     let wanted = c.args.wanted in
     let past : length f.so_far ≤ wanted = omega (arith, f.passed.counted) in

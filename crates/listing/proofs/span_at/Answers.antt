@@ -1,6 +1,5 @@
 -- `span_at` meets its contract: the two numbers are those that stand there.
 use mathlib.Core.Path.{◌∙◌}
-use borrow.Author.Rules.{rules}
 use mir.Syntax.{w32}
 use mir.ValLaws.{to_z-of_z}
 use Rattle.extension.specs.Walk.{span}

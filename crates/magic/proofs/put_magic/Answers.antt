@@ -1,6 +1,5 @@
 -- `put_magic` meets its contract: its four stores are those of the kind's magic.
 use Rattle.magic.proofs.Stores.{magic_stores}
-use borrow.Author.Rules.{rules}
 use Rattle.magic.proofs.put_magic.Goals as goal
 
 pub returns : goal.returns

@@ -1,6 +1,5 @@
 -- `outline_checked` meets its contract: the scan's answer decides, by the laws of proofs/Outlines.antt.
 use mathlib.Core.Path.{sym, ◌∙◌}
-use borrow.Author.Rules.{rules}
 use Rattle.outline.proofs.Outlines.{outlines}
 use Rattle.outline.proofs.outline_checked.Goals as goal
 

@@ -2,7 +2,6 @@
 use mathlib.Core.Path.{sym, ap, ◌∙◌}
 use Rattle.layout.specs.File.{checked_in}
 use Rattle.outline.proofs.Outlines.{outlines_unread}
-use borrow.Author.Rules.{rules}
 use Rattle.outline.proofs.outline_in.Goals as goal
 
 pub outline_checked-requires : goal.outline_checked-requires

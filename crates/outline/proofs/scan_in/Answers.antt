@@ -1,6 +1,5 @@
 -- `scan_in` meets its contract: the region's scan where the extender says so, and else no extensions.
 use mathlib.Core.Path.{sym, ◌∙◌}
-use borrow.Author.Rules.{rules}
 use Rattle.outline.proofs.Outlines.{region_inside}
 use Rattle.outline.proofs.scan_in.Goals as goal
 

@@ -7,7 +7,6 @@ use Rattle.extension.specs.Listing.{no_span}
 use Rattle.extension.specs.Walk.{extension_limit}
 use Rattle.answers.specs.Answers.{refused_extension, extension_shown, extension_answer}
 use Rattle.piece_reader.proofs.Answers.{count_few}
-use borrow.Author.Rules.{rules}
 use Rattle.piece_answers.proofs.extension_answer.Goals as goal
 
 pub shown_extension-requires : goal.shown_extension-requires

@@ -5,7 +5,6 @@ use Rattle.refusal.specs.Table.{decided}
 use Rattle.extension.specs.Walk.{extension_limit}
 use Rattle.answers.specs.Answers.{shown_file, refused_file, file_answer}
 use Rattle.piece_reader.proofs.Answers.{count_few}
-use borrow.Author.Rules.{rules}
 use Rattle.piece_answers.proofs.file_answer.Goals as goal
 
 pub shown_file-requires : goal.shown_file-requires

@@ -1,7 +1,6 @@
 -- `taken_answer` meets its contract.
 use mathlib.Core.Path.{sym, ap, ◌∙◌}
 use Rattle.piece_answers.specs.Answers.{answered, taken_answer}
-use borrow.Author.Rules.{rules}
 use Rattle.piece_answers.proofs.taken_answer.Goals as goal
 
 pub returns-in-Accepted : goal.returns-in-Accepted

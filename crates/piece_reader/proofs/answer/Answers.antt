@@ -1,7 +1,6 @@
 -- `answer` meets its contract.
 use mathlib.Core.Path.{sym, ◌∙◌}
 use mathlib.Core.Bool.{false≢true}
-use native.Mathlib.Omega.{arith}
 use Rattle.layout.specs.File.{checked_in}
 use Rattle.layout.proofs.Checking.{checked_measured, checked_aligned}
 use Rattle.outline.proofs.Outlines.{checked_shown, checked_hidden}

@@ -1,12 +1,10 @@
 -- `listed` meets its contract: the step is that of the walk where it stands.
 use mathlib.Core.Path.{◌≡◌, sym, ◌∙◌}
 use mathlib.Core.Bool.{true}
-use borrow.Author.Tests.{not-true, not-false}
 use Rattle.layout.specs.File.{has_extensions}
 use Rattle.piece_walk.specs.Walking.{step_by, walker_of}
 use Rattle.pieces.specs.Pieces.{end_in}
 use Rattle.piece_reader.specs.Answer.{listed_by}
-use borrow.Author.Rules.{rules}
 use Rattle.piece_reader.proofs.listed.Goals as goal
 
 pub returns-then-not-has_extensions : goal.returns-then-not-has_extensions

@@ -1,5 +1,5 @@
 -- `spans_in` meets its contract: so far the spans are those of the marks so far, and the next one starts where they end.
-use Prim.Native.Nat.{◌+◌, ◌-◌, ◌*◌, ◌<◌, ◌≤◌}
+use Prim.Native.Nat.{◌+◌, ◌<◌}
 use mathlib.Core.Path.{◌≡◌, refl, ap, ◌∙◌}
 use native.Mathlib.Omega.{arith}
 use borrow.Author.Rules.{rules}
@@ -9,7 +9,7 @@ use mir.Val.{to_z, of_z}
 use Rattle.number.specs.Natural.{natural_of}
 use Rattle.extension.specs.Walk.{extension_limit, first_place, span}
 use Rattle.extension.specs.Listing.{spans_of}
-use Rattle.piece_walk.specs.Marks.{no_mark, place_by, spans_by}
+use Rattle.piece_walk.specs.Marks.{no_mark, spans_by}
 use Rattle.piece_reader.proofs.Spans.{place_turn, span_turn}
 use Rattle.piece_reader.proofs.spans_in.Goals as goal
 

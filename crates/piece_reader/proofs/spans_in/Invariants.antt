@@ -1,16 +1,10 @@
 -- `spans_in` meets its contract: so far the spans are those of the marks so far, and the next one starts where they end.
-use Prim.Native.Nat.{◌+◌, ◌-◌, ◌*◌, ◌<◌, ◌≤◌}
-use mathlib.Core.Path.{◌≡◌, refl, ap, ◌∙◌}
-use native.Mathlib.Omega.{arith}
-use borrow.Author.Rules.{rules}
-use lib.ListN.{length, get_or, set, take}
-use mir.Syntax.{w32}
-use mir.Val.{to_z, of_z}
-use Rattle.number.specs.Natural.{natural_of}
-use Rattle.extension.specs.Walk.{extension_limit, first_place, span}
+use Prim.Native.Nat.{◌+◌, ◌-◌, ◌*◌, ◌≤◌}
+use mathlib.Core.Path.{◌≡◌}
+use lib.ListN.{take}
+use Rattle.extension.specs.Walk.{first_place}
 use Rattle.extension.specs.Listing.{spans_of}
-use Rattle.piece_walk.specs.Marks.{no_mark, place_by, spans_by}
-use Rattle.piece_reader.proofs.Spans.{place_turn, span_turn}
+use Rattle.piece_walk.specs.Marks.{place_by, spans_by}
 use Rattle.piece_reader.proofs.spans_in.Given as goal
 
 abbrev pub invariant-loop-i : goal.invariant-loop-i

@@ -1,6 +1,5 @@
 -- `step_by` meets its contract.
 use mathlib.Core.Path.{◌≡◌}
-use borrow.Author.Rules.{rules}
 use mir.Syntax.{w32}
 use mir.ValLaws.{to_z-of_z}
 use mir.Val.{to_z, of_z}

@@ -10,7 +10,6 @@ use mir.ValLaws.{to_z-of_z}
 use Rattle.field.specs.Numbers.{i32_at}
 use Rattle.piece_walk.specs.Walking.{step_by}
 use Rattle.piece_walk.proofs.Stepping.{step_short, step_with, number_in}
-use borrow.Author.Rules.{rules}
 use Rattle.piece_walk.proofs.step_in.Goals as goal
 
 pub returns-then-n-lt16 : goal.returns-then-n-lt16

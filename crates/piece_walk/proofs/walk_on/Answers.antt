@@ -1,15 +1,11 @@
 -- `walk_on` meets its contract: what the start comes to is what the walk so far comes to (proofs/Passing.antt). The measure is how many
 -- extensions may still come.
-use Prim.Native.Nat.{ℕ, ◌+◌, ◌-◌, ◌<◌}
+use Prim.Native.Nat.{◌+◌, ◌-◌, ◌<◌}
 use mathlib.Core.Path.{◌≡◌, refl, sym, ap, ◌∙◌}
-use mathlib.Core.List.{List}
 use native.Mathlib.Omega.{arith}
-use borrow.Author.Rules.{rules}
 use lib.ListN.{length, set}
 use Rattle.extension.specs.declared.Step.TheVariants.{Extension}
 use Rattle.extension.specs.Walk.{extension_limit}
-use Rattle.piece_walk.specs.declared.Mark.{Mark}
-use Rattle.piece_walk.specs.declared.Walk.{Walk}
 use Rattle.piece_walk.specs.Window.{window}
 use Rattle.piece_walk.specs.Walking.{step_by, walker_of, passing, walked_on}
 use Rattle.piece_walk.proofs.Passing.{step_room, passing_on, passing_end, passing_halt}
@@ -22,9 +18,9 @@ loop-x-init c = refl
 pub offset_bounds-marks-count : goal.offset_bounds-marks-count
 offset_bounds-marks-count c =
     let so_far =
-        let l = c.loop-x in
-        let a = c.args in
-        walk l.at l.count (window l.at a.end a.taken a.walk.coming a.piece.now) l.marks in
+    let l = c.loop-x in
+    let a = c.args in
+    walk l.at l.count (window l.at a.end a.taken a.walk.coming a.piece.now) l.marks in
     let step_is : let a = c.args in step_by (walker_of a.order a.end so_far) so_far.coming (a.taken + length a.piece.now) ≡ Extension c.in-Extension.x c.in-Extension.next = sym c.step_in-step.ensures ∙ c.in-Extension.is in
     let room-is : (so_far.count < extension_limit) × (c.in-Extension.next.count ≡ so_far.count + 1) = step_room _ _ _ _ _ step_is in
     omega (arith, room-is)
@@ -32,9 +28,9 @@ offset_bounds-marks-count c =
 pub bounds-marks-count : goal.bounds-marks-count
 bounds-marks-count c =
     let so_far =
-        let l = c.loop-x in
-        let a = c.args in
-        walk l.at l.count (window l.at a.end a.taken a.walk.coming a.piece.now) l.marks in
+    let l = c.loop-x in
+    let a = c.args in
+    walk l.at l.count (window l.at a.end a.taken a.walk.coming a.piece.now) l.marks in
     let step_is : let a = c.args in step_by (walker_of a.order a.end so_far) so_far.coming (a.taken + length a.piece.now) ≡ Extension c.in-Extension.x c.in-Extension.next = sym c.step_in-step.ensures ∙ c.in-Extension.is in
     let room-is : (so_far.count < extension_limit) × (c.in-Extension.next.count ≡ so_far.count + 1) = step_room _ _ _ _ _ step_is in
     omega (arith, room-is)
@@ -42,9 +38,9 @@ bounds-marks-count c =
 pub loop-x-smaller : goal.loop-x-smaller
 loop-x-smaller c =
     let so_far =
-        let l = c.loop-x in
-        let a = c.args in
-        walk l.at l.count (window l.at a.end a.taken a.walk.coming a.piece.now) l.marks in
+    let l = c.loop-x in
+    let a = c.args in
+    walk l.at l.count (window l.at a.end a.taken a.walk.coming a.piece.now) l.marks in
     let step_is : let a = c.args in step_by (walker_of a.order a.end so_far) so_far.coming (a.taken + length a.piece.now) ≡ Extension c.in-Extension.x c.in-Extension.next = sym c.step_in-step.ensures ∙ c.in-Extension.is in
     let room-is : (so_far.count < extension_limit) × (c.in-Extension.next.count ≡ so_far.count + 1) = step_room _ _ _ _ _ step_is in
     omega (arith, room-is)
@@ -52,9 +48,9 @@ loop-x-smaller c =
 pub loop-x-preserved : goal.loop-x-preserved
 loop-x-preserved c =
     let so_far =
-        let l = c.loop-x in
-        let a = c.args in
-        walk l.at l.count (window l.at a.end a.taken a.walk.coming a.piece.now) l.marks in
+    let l = c.loop-x in
+    let a = c.args in
+    walk l.at l.count (window l.at a.end a.taken a.walk.coming a.piece.now) l.marks in
     let step_is : let a = c.args in step_by (walker_of a.order a.end so_far) so_far.coming (a.taken + length a.piece.now) ≡ Extension c.in-Extension.x c.in-Extension.next = sym c.step_in-step.ensures ∙ c.in-Extension.is in
     let l = c.loop-x in
     let a = c.args in
@@ -72,9 +68,9 @@ pub returns-in-End : goal.returns-in-End
 unfolding walked_on
 returns-in-End c =
     let so_far =
-        let l = c.loop-x in
-        let a = c.args in
-        walk l.at l.count (window l.at a.end a.taken a.walk.coming a.piece.now) l.marks in
+    let l = c.loop-x in
+    let a = c.args in
+    walk l.at l.count (window l.at a.end a.taken a.walk.coming a.piece.now) l.marks in
     let l = c.loop-x in
     sym
     (l.invariant
@@ -85,9 +81,9 @@ pub returns-in-Halt : goal.returns-in-Halt
 unfolding walked_on
 returns-in-Halt c =
     let so_far =
-        let l = c.loop-x in
-        let a = c.args in
-        walk l.at l.count (window l.at a.end a.taken a.walk.coming a.piece.now) l.marks in
+    let l = c.loop-x in
+    let a = c.args in
+    walk l.at l.count (window l.at a.end a.taken a.walk.coming a.piece.now) l.marks in
     let l = c.loop-x in
     sym
     (l.invariant

@@ -1,18 +1,13 @@
 -- `walk_on` meets its contract: what the start comes to is what the walk so far comes to (proofs/Passing.antt). The measure is how many
 -- extensions may still come.
-use Prim.Native.Nat.{ℕ, ◌+◌, ◌-◌, ◌<◌}
-use mathlib.Core.Path.{◌≡◌, refl, sym, ap, ◌∙◌}
+use Prim.Native.Nat.{ℕ, ◌-◌}
+use mathlib.Core.Path.{◌≡◌}
 use mathlib.Core.List.{List}
-use native.Mathlib.Omega.{arith}
-use borrow.Author.Rules.{rules}
-use lib.ListN.{length, set}
-use Rattle.extension.specs.declared.Step.TheVariants.{Extension}
 use Rattle.extension.specs.Walk.{extension_limit}
 use Rattle.piece_walk.specs.declared.Mark.{Mark}
 use Rattle.piece_walk.specs.declared.Walk.{Walk}
 use Rattle.piece_walk.specs.Window.{window}
-use Rattle.piece_walk.specs.Walking.{step_by, walker_of, passing, walked_on}
-use Rattle.piece_walk.proofs.Passing.{step_room, passing_on, passing_end, passing_halt}
+use Rattle.piece_walk.specs.Walking.{passing}
 use Rattle.piece_walk.proofs.walk_on.Given as goal
 
 -- the walk so far, by its parts

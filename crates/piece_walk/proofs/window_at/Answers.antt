@@ -1,11 +1,6 @@
 -- `window_at` meets its contract: so far the window's first bytes are stored.
-use Prim.Native.Nat.{◌-◌, ◌≤◌}
-use mathlib.Core.Path.{◌≡◌}
-use mathlib.Core.List.{◌++◌}
 use native.Mathlib.Omega.{arith}
-use borrow.Author.Rules.{rules}
-use lib.ListN.{length, drop, length-set}
-use Rattle.field.specs.Numbers.{tabulate}
+use lib.ListN.{length-set}
 use Rattle.field.proofs.Tabulate.{tabulate_turn, tabulate_done}
 use Rattle.piece_walk.specs.Window.{window_byte, window}
 use Rattle.piece_walk.proofs.window_at.Goals as goal

@@ -2,12 +2,9 @@
 use Prim.Native.Nat.{◌-◌, ◌≤◌}
 use mathlib.Core.Path.{◌≡◌}
 use mathlib.Core.List.{◌++◌}
-use native.Mathlib.Omega.{arith}
-use borrow.Author.Rules.{rules}
-use lib.ListN.{length, drop, length-set}
+use lib.ListN.{length, drop}
 use Rattle.field.specs.Numbers.{tabulate}
-use Rattle.field.proofs.Tabulate.{tabulate_turn, tabulate_done}
-use Rattle.piece_walk.specs.Window.{window_byte, window}
+use Rattle.piece_walk.specs.Window.{window_byte}
 use Rattle.piece_walk.proofs.window_at.Given as goal
 
 abbrev pub invariant-loop-i : goal.invariant-loop-i

@@ -2,7 +2,6 @@
 use Prim.Native.Nat.{◌+◌, ◌<◌, ◌≤◌}
 use native.Mathlib.Omega.{arith}
 use borrow.Author.Tests.{lt-ltb, le-ltb}
-use borrow.Author.Rules.{rules}
 use Rattle.piece_walk.proofs.window_byte.Goals as goal
 
 pub returns-then-minus-i : goal.returns-then-minus-i

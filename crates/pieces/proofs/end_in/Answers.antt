@@ -1,8 +1,6 @@
 -- `end_in` meets its contract.
 use mathlib.Core.Path.{sym, ◌∙◌}
-use borrow.Author.Tests.{not-true, not-false}
 use Rattle.pieces.specs.Pieces.{end_in}
-use borrow.Author.Rules.{rules}
 use Rattle.pieces.proofs.end_in.Goals as goal
 
 pub returns-then-not-has_extensions : goal.returns-then-not-has_extensions

@@ -4,7 +4,6 @@ use mathlib.Core.Bool.{◌||◌}
 use lib.Dec.{leb}
 use borrow.Author.Tests.{le-leb, lt-leb}
 use Rattle.pieces.specs.Pieces.{front_length, end_in}
-use borrow.Author.Rules.{rules}
 use Rattle.pieces.proofs.is_skipped.Goals as goal
 
 pub returns-then-taken-lt352 : goal.returns-then-taken-lt352

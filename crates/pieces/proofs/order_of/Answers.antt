@@ -1,7 +1,6 @@
 -- `order_of` meets its contract.
 use mathlib.Core.Path.{sym, ◌∙◌}
 use Rattle.layout.specs.File.{order_of}
-use borrow.Author.Rules.{rules}
 use Rattle.pieces.proofs.order_of.Goals as goal
 
 pub returns-then-holds_in : goal.returns-then-holds_in

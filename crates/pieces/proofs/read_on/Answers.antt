@@ -5,7 +5,6 @@ use lib.ListN.{length}
 use Rattle.layout.specs.File.{order_of}
 use Rattle.piece_walk.specs.Walking.{walked_on}
 use Rattle.pieces.specs.Pieces.{end_in, walk_with, read_on}
-use borrow.Author.Rules.{rules}
 use Rattle.pieces.proofs.read_on.Goals as goal
 
 pub returns : goal.returns

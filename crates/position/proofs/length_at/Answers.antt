@@ -2,7 +2,6 @@
 use mathlib.Core.Path.{◌∙◌}
 use native.Mathlib.Omega.{arith}
 use Rattle.position.proofs.Answers.{length_stated, length-past}
-use borrow.Author.Rules.{rules}
 use Rattle.position.proofs.length_at.Goals as goal
 
 pub returns-then-axis-axis_count : goal.returns-then-axis-axis_count

@@ -1,7 +1,6 @@
 -- `position_in` meets its contract: its answer is by the record's fields.
 use mathlib.Core.Path.{◌∙◌}
 use Rattle.position.specs.Positions.{position_by}
-use borrow.Author.Rules.{rules}
 use Rattle.position.proofs.position_in.Goals as goal
 
 pub returns : goal.returns

@@ -4,7 +4,6 @@ use Rattle.refusal.specs.declared.Verdict.TheVariants.{Accepted}
 use Rattle.header.specs.Fields.{header_of}
 use Rattle.rules.specs.Rules.{completed}
 use Rattle.layout.specs.File.{shape_in}
-use borrow.Author.Rules.{rules}
 use Rattle.reader.proofs.accepted.Goals as goal
 
 -- the record's fields are the file's

@@ -1,7 +1,6 @@
 -- `list_in` meets its contract: the region's list where the extender says so, and else no extensions.
 use mathlib.Core.Path.{sym, ◌∙◌}
 use Rattle.extension.specs.Listing.{listing_of}
-use borrow.Author.Rules.{rules}
 use Rattle.reader.proofs.list_in.Goals as goal
 
 pub returns-then-has_extensions : goal.returns-then-has_extensions

@@ -1,7 +1,6 @@
 -- `read` meets its contract: rules 1 to 12, and then the extensions.
 use mathlib.Core.Path.{sym, ◌∙◌}
 use Rattle.reader.proofs.Answers.{reads_broken}
-use borrow.Author.Rules.{rules}
 use Rattle.reader.proofs.read.Goals as goal
 
 pub read_list-requires : goal.read_list-requires

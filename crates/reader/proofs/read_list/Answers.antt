@@ -3,7 +3,6 @@ use mathlib.Core.Path.{◌∙◌}
 use lib.ListN.{length}
 use Rattle.layout.proofs.Checking.{checked_measured, checked_aligned}
 use Rattle.reader.proofs.Answers.{reads_refused, reads_accepted}
-use borrow.Author.Rules.{rules}
 use Rattle.reader.proofs.read_list.Goals as goal
 
 pub accepted-requires : goal.accepted-requires

@@ -1,7 +1,6 @@
 -- `refused` meets its contract: the record of no bytes.
 use Rattle.refusal.specs.declared.Verdict.TheVariants.{Refused}
 use Rattle.reader.specs.Reading.{no_image}
-use borrow.Author.Rules.{rules}
 use Rattle.reader.proofs.refused.Goals as goal
 
 pub returns : goal.returns

@@ -2,7 +2,6 @@
 use Prim.Native.Nat.{◌≤◌}
 use mathlib.Core.Path.{◌≡◌, sym, ◌∙◌}
 use native.Mathlib.Omega.{arith}
-use lib.IntN.{ℤ}
 use mir.Syntax.{w16}
 use mir.Val.{to_z, of_z}
 use Rattle.rules.specs.Rules.{first_bad}
@@ -13,15 +12,15 @@ use Rattle.rules.proofs.judge.Goals as goal
 pub overflow_mul-bad : goal.overflow_mul-bad
 overflow_mul-bad c =
     let bad-most : c.first_below_one-bad.result ≤ 32767 =
-        let a = c.args in
-        omega (arith, c.first_below_one-bad.ensures, first_most a.shape.dim c.axis_count.result, c.axis_count.ensures.1) in
+    let a = c.args in
+    omega (arith, c.first_below_one-bad.ensures, first_most a.shape.dim c.axis_count.result, c.axis_count.ensures.1) in
     record { fits = omega (arith, bad-most) }
 
 pub overflow_add-bad : goal.overflow_add-bad
 overflow_add-bad c =
     let bad-most : c.first_below_one-bad.result ≤ 32767 =
-        let a = c.args in
-        omega (arith, c.first_below_one-bad.ensures, first_most a.shape.dim c.axis_count.result, c.axis_count.ensures.1) in
+    let a = c.args in
+    omega (arith, c.first_below_one-bad.ensures, first_most a.shape.dim c.axis_count.result, c.axis_count.ensures.1) in
     record { fits = omega (arith, bad-most) }
 
 pub returns-then-bad-gt0 : goal.returns-then-bad-gt0
@@ -34,8 +33,7 @@ judge_format-requires c =
     let bad-is : c.first_below_one-bad.result ≡ first_bad c.args.shape = c.first_below_one-bad.ensures ∙ rw c.axis_count.ensures.0 in
     let code = c.args.shape.datatype in
     let code_same : to_z w16 (of_z w16 code) ≡ code = search rules in
-    let none : c.first_below_one-bad.result ≡ 0 = omega arith in
-    (
+    let none : c.first_below_one-bad.result ≡ 0 = omega arith in (
       sym bad-is ∙ none,
       rw code_same at (sym c.datatype_of-datatype.ensures ∙ c.in-Known.is),
     )

@@ -2,7 +2,6 @@
 -- decoder answers, and what it says of a whole offset is handed on.
 use mathlib.Core.Path.{◌≡◌, sym, ◌∙◌}
 use mathlib.Core.Bool.{true}
-use native.Mathlib.Omega.{arith}
 use mir.Syntax.{w16}
 use mir.Val.{SFits, of_z}
 use Rattle.datatype.specs.Datatypes.{is_number}
@@ -25,8 +24,8 @@ pub judge_image-requires : goal.judge_image-requires
 judge_image-requires c =
     let bitpix-fits : SFits w16 c.args.shape.bitpix = record { sfits = search rules } in
     let agree : of_z w16 c.args.shape.bitpix ≡ of_z w16 c.args.format.bits → is_number c.args.shape.bitpix (natural_of c.args.format.bits) ≡ true = λ e.
-        let a = c.args in
-        bits_agree a.format a.shape.bitpix (known_sound a.shape.datatype a.format c.requires.1) bitpix-fits e in
+    let a = c.args in
+    bits_agree a.format a.shape.bitpix (known_sound a.shape.datatype a.format c.requires.1) bitpix-fits e in
     (c.requires.0, c.requires.1, agree c.if-shape-format.false, sym c.decode-offset.ensures, c.in_default.not-Refused)
 
 pub returns-in-Refused : goal.returns-in-Refused
@@ -34,7 +33,7 @@ returns-in-Refused c =
     let formed : HasFormat c.args.shape c.args.format = record { axes = c.requires.0; known = c.requires.1 } in
     let bitpix-fits : SFits w16 c.args.shape.bitpix = record { sfits = search rules } in
     let agree : of_z w16 c.args.shape.bitpix ≡ of_z w16 c.args.format.bits → is_number c.args.shape.bitpix (natural_of c.args.format.bits) ≡ true = λ e.
-        let a = c.args in
-        bits_agree a.format a.shape.bitpix (known_sound a.shape.datatype a.format c.requires.1) bitpix-fits e in
+    let a = c.args in
+    bits_agree a.format a.shape.bitpix (known_sound a.shape.datatype a.format c.requires.1) bitpix-fits e in
     let a = c.args in
     judged_refused a.shape a.len a.format formed (agree c.if-shape-format.false) c.in-Refused.r (sym c.decode-offset.ensures ∙ c.in-Refused.is)

@@ -6,7 +6,6 @@ use Rattle.offset.proofs.Answer.{Reads, whole_reads}
 use Rattle.rules.specs.Rules.{bytes_of_image}
 use Rattle.rules.specs.declared.Judged.TheVariants.{Passed}
 use Rattle.rules.proofs.Judging.{HasOffset, judged_9, judged_10, judged_passed, image_is}
-use borrow.Author.Rules.{rules}
 use Rattle.rules.proofs.judge_image.Goals as goal
 
 pub returns-then-offset_outside : goal.returns-then-offset_outside
@@ -14,12 +13,12 @@ returns-then-offset_outside c =
     let told : Reads c.args.shape.vox_offset (whole_in c.args.offset) (says_aligned c.args.offset) = whole_reads c.args.shape.vox_offset c.args.offset c.requires.3 c.requires.4 in
     let at-is : whole_of c.args.shape.vox_offset ≡ c.whole_in-at.result = told.value ∙ sym c.whole_in-at.ensures in
     let offered : HasOffset c.args.shape c.args.format c.whole_in-at.result =
-        record {
-          format = record { axes = c.requires.0; known = c.requires.1 };
-          bits = c.requires.2;
-          whole = told.whole;
-          value = at-is;
-        } in
+    record {
+      format = record { axes = c.requires.0; known = c.requires.1 };
+      bits = c.requires.2;
+      whole = told.whole;
+      value = at-is;
+    } in
     let a = c.args in
     let outside = sym c.offset_outside.ensures ∙ c.if-offset_outside.true in
     c.failed.ensures ∙ judged_9 a.shape a.len a.format c.whole_in-at.result offered outside
@@ -29,12 +28,12 @@ returns-then-bytes-gt-LIMIT c =
     let told : Reads c.args.shape.vox_offset (whole_in c.args.offset) (says_aligned c.args.offset) = whole_reads c.args.shape.vox_offset c.args.offset c.requires.3 c.requires.4 in
     let at-is : whole_of c.args.shape.vox_offset ≡ c.whole_in-at.result = told.value ∙ sym c.whole_in-at.ensures in
     let offered : HasOffset c.args.shape c.args.format c.whole_in-at.result =
-        record {
-          format = record { axes = c.requires.0; known = c.requires.1 };
-          bits = c.requires.2;
-          whole = told.whole;
-          value = at-is;
-        } in
+    record {
+      format = record { axes = c.requires.0; known = c.requires.1 };
+      bits = c.requires.2;
+      whole = told.whole;
+      value = at-is;
+    } in
     let a = c.args in
     let at = c.whole_in-at.result in
     let inside = sym c.offset_outside.ensures ∙ c.if-offset_outside.false in
@@ -46,12 +45,12 @@ returns c =
     let told : Reads c.args.shape.vox_offset (whole_in c.args.offset) (says_aligned c.args.offset) = whole_reads c.args.shape.vox_offset c.args.offset c.requires.3 c.requires.4 in
     let at-is : whole_of c.args.shape.vox_offset ≡ c.whole_in-at.result = told.value ∙ sym c.whole_in-at.ensures in
     let offered : HasOffset c.args.shape c.args.format c.whole_in-at.result =
-        record {
-          format = record { axes = c.requires.0; known = c.requires.1 };
-          bits = c.requires.2;
-          whole = told.whole;
-          value = at-is;
-        } in
+    record {
+      format = record { axes = c.requires.0; known = c.requires.1 };
+      bits = c.requires.2;
+      whole = told.whole;
+      value = at-is;
+    } in
     let a = c.args in
     let at = c.whole_in-at.result in
     let inside = sym c.offset_outside.ensures ∙ c.if-offset_outside.false in

@@ -2,7 +2,6 @@
 use mathlib.Core.Path.{sym}
 use native.Mathlib.Omega.{arith}
 use Rattle.rules.proofs.Judging.{beyond, single_outside, pair_outside}
-use borrow.Author.Rules.{rules}
 use Rattle.rules.proofs.offset_outside.Goals as goal
 
 pub returns-then-offset-gt-LIMIT : goal.returns-then-offset-gt-LIMIT

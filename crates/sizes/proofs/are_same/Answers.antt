@@ -1,5 +1,4 @@
 -- `are_same` meets its contract: the totals, and the steps.
-use borrow.Author.Rules.{rules}
 use Rattle.sizes.proofs.are_same.Goals as goal
 
 pub returns : goal.returns

@@ -2,12 +2,11 @@
 -- is left, is right as far as rule 10 asks, each product being small.
 use mathlib.Core.Path.{◌≡◌, refl, sym, ap, ◌∙◌}
 use mathlib.Core.Bool.{true, false, ◌&&◌, false≢true}
-use Prim.Native.Nat.{ℕ, ◌+◌, ◌-◌, ◌*◌, ◌<◌, ◌≤◌}
+use Prim.Native.Nat.{ℕ, ◌+◌, ◌*◌, ◌<◌, ◌≤◌}
 use native.Mathlib.Omega.{arith}
 use native.Mathlib.Nat.{add-zero, mul-le-mul}
 use lib.Dec.{ltb}
 use lib.ListN.{get_or, drop}
-use borrow.Author.Rules.{rules}
 use borrow.Author.Tests.{le-ltb, lt-ltb}
 use Rattle.grid.specs.Grid.{within}
 use Rattle.grid.specs.Axes.{image_limit, capped, seven_axes}
@@ -31,13 +30,13 @@ length_after-requires c = omega (arith, c.requires.2)
 pub returns-then-length_after-i : goal.returns-then-length_after-i
 returns-then-length_after-i c =
     let next : let a = c.args in let k = c.loop-k.k in let l = seven_axes a.dim.now a.n in within l a.index.now ≡ (ltb (get_or a.index.now k 0) c.length_after.result && within (drop (k + 1) l) (drop (k + 1) a.index.now)) =
-        let a = c.args in
-        let l = seven_axes a.dim.now a.n in
-        let seven = seven_length a.dim.now a.n c.requires.0 in
-        let few = c.requires.2 in
-        c.loop-k.invariant.2
-        ∙ within_next l a.index.now c.loop-k.k (omega arith) (omega arith)
-        ∙ rw (← c.length_after.ensures.0) in
+    let a = c.args in
+    let l = seven_axes a.dim.now a.n in
+    let seven = seven_length a.dim.now a.n c.requires.0 in
+    let few = c.requires.2 in
+    c.loop-k.invariant.2
+    ∙ within_next l a.index.now c.loop-k.k (omega arith) (omega arith)
+    ∙ rw (← c.length_after.ensures.0) in
     let a = c.args in
     let out : within (seven_axes a.dim.now a.n) a.index.now ≡ false = rw (next, le-ltb _ _ c.if-length_after-i.true) in
     record { outside = λ _. refl; inside = λ w. absurd (false≢true (sym out ∙ w)); small = λ w. absurd (false≢true (sym out ∙ w)) }
@@ -48,17 +47,17 @@ bounds-steps-k c = omega (arith, c.requires.1, c.requires.2)
 pub overflow_mul-sum : goal.overflow_mul-sum
 overflow_mul-sum c =
     let product : let a = c.args in get_or a.index.now c.loop-k.k 0 * c.limited.result ≤ 32767 * (image_limit + 1) =
-        let e = c.limited.ensures in
-        let i = c.if-length_after-i.false in
-        mul-le-mul {n₂ = 32767} {m₂ = image_limit + 1} (omega (arith, c.length_after.ensures.1)) (omega arith) in
+    let e = c.limited.ensures in
+    let i = c.if-length_after-i.false in
+    mul-le-mul {n₂ = 32767} {m₂ = image_limit + 1} (omega (arith, c.length_after.ensures.1)) (omega arith) in
     record { fits = omega (arith, product) }
 
 pub overflow_add-sum : goal.overflow_add-sum
 overflow_add-sum c =
     let product : let a = c.args in get_or a.index.now c.loop-k.k 0 * c.limited.result ≤ 32767 * (image_limit + 1) =
-        let e = c.limited.ensures in
-        let i = c.if-length_after-i.false in
-        mul-le-mul {n₂ = 32767} {m₂ = image_limit + 1} (omega (arith, c.length_after.ensures.1)) (omega arith) in
+    let e = c.limited.ensures in
+    let i = c.if-length_after-i.false in
+    mul-le-mul {n₂ = 32767} {m₂ = image_limit + 1} (omega (arith, c.length_after.ensures.1)) (omega arith) in
     record { fits = omega (arith, product) }
 
 pub loop-k-smaller : goal.loop-k-smaller
@@ -69,17 +68,17 @@ loop-k-smaller c =
 pub loop-k-preserved : goal.loop-k-preserved
 loop-k-preserved c =
     let next : let a = c.args in let k = c.loop-k.k in let l = seven_axes a.dim.now a.n in within l a.index.now ≡ (ltb (get_or a.index.now k 0) c.length_after.result && within (drop (k + 1) l) (drop (k + 1) a.index.now)) =
-        let a = c.args in
-        let l = seven_axes a.dim.now a.n in
-        let seven = seven_length a.dim.now a.n c.requires.0 in
-        let few = c.requires.2 in
-        c.loop-k.invariant.2
-        ∙ within_next l a.index.now c.loop-k.k (omega arith) (omega arith)
-        ∙ rw (← c.length_after.ensures.0) in
+    let a = c.args in
+    let l = seven_axes a.dim.now a.n in
+    let seven = seven_length a.dim.now a.n c.requires.0 in
+    let few = c.requires.2 in
+    c.loop-k.invariant.2
+    ∙ within_next l a.index.now c.loop-k.k (omega arith) (omega arith)
+    ∙ rw (← c.length_after.ensures.0) in
     let product : let a = c.args in get_or a.index.now c.loop-k.k 0 * c.limited.result ≤ 32767 * (image_limit + 1) =
-        let e = c.limited.ensures in
-        let i = c.if-length_after-i.false in
-        mul-le-mul {n₂ = 32767} {m₂ = image_limit + 1} (omega (arith, c.length_after.ensures.1)) (omega arith) in
+    let e = c.limited.ensures in
+    let i = c.if-length_after-i.false in
+    mul-le-mul {n₂ = 32767} {m₂ = image_limit + 1} (omega (arith, c.length_after.ensures.1)) (omega arith) in
     let steps = c.args.steps.now in
     let index = c.args.index.now in
     let k = c.loop-k.k in

@@ -1,21 +1,11 @@
 -- `bytes_before` meets its contract: what is left of the index, from axis k on, decides whether it is inside; and the sum so far, with what
 -- is left, is right as far as rule 10 asks, each product being small.
-use mathlib.Core.Path.{◌≡◌, refl, sym, ap, ◌∙◌}
-use mathlib.Core.Bool.{true, false, ◌&&◌, false≢true}
-use Prim.Native.Nat.{ℕ, ◌+◌, ◌-◌, ◌*◌, ◌<◌, ◌≤◌}
-use native.Mathlib.Omega.{arith}
-use native.Mathlib.Nat.{add-zero, mul-le-mul}
-use lib.Dec.{ltb}
-use lib.ListN.{get_or, drop}
-use borrow.Author.Rules.{rules}
-use borrow.Author.Tests.{le-ltb, lt-ltb}
+use mathlib.Core.Path.{◌≡◌}
+use Prim.Native.Nat.{◌+◌, ◌-◌, ◌*◌, ◌≤◌}
+use lib.ListN.{drop}
 use Rattle.grid.specs.Grid.{within}
 use Rattle.grid.specs.Axes.{image_limit, capped, seven_axes}
 use Rattle.grid.specs.Sizes.{bytes_before}
-use Rattle.grid.proofs.Bounds.{seven_length}
-use Rattle.grid.proofs.Limit.{capped-sum}
-use Rattle.grid.proofs.Steps.{before_next, before_end}
-use Rattle.grid.proofs.Voxels.{within_next, within_end}
 use Rattle.sizes.proofs.bytes_before.Given as goal
 
 abbrev pub invariant-loop-k : goal.invariant-loop-k

@@ -1,6 +1,5 @@
 -- `next_step` meets its contract: the product is small where it is taken.
 use native.Mathlib.Omega.{arith}
-use borrow.Author.Rules.{rules}
 use borrow.Author.Tests.{lt-ltb, le-ltb}
 use Rattle.sizes.proofs.next_step.Goals as goal
 

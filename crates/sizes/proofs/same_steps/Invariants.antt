@@ -1,12 +1,8 @@
 -- `same_steps` meets its contract: what is left to compare, from k on, decides the whole.
-use mathlib.Core.Path.{◌≡◌, refl, sym, ◌∙◌}
+use mathlib.Core.Path.{◌≡◌}
 use Prim.Native.Nat.{◌-◌, ◌≤◌}
-use native.Mathlib.Omega.{arith}
 use lib.ListN.{drop}
-use borrow.Author.Rules.{rules}
-use borrow.Author.Tests.{ne_eqb, eq-eqb}
 use Rattle.number.specs.Same.{same_numbers}
-use Rattle.number.proofs.Same.{same_next, same_end}
 use Rattle.sizes.proofs.same_steps.Given as goal
 
 abbrev pub invariant-loop-k : goal.invariant-loop-k

@@ -1,13 +1,9 @@
 -- `sizes_of` meets its contract: after k turns the array has the steps of axes 1 to k, and `step` is the next one.
-use mathlib.Core.Path.{◌≡◌, refl, sym, ap, ◌∙◌}
-use Prim.Native.Nat.{ℕ, ◌-◌, ◌≤◌}
-use mathlib.Core.List.{◌++◌, append-nil}
-use native.Mathlib.Omega.{arith}
-use native.Mathlib.Numerals.{add-one}
+use mathlib.Core.Path.{◌≡◌}
+use Prim.Native.Nat.{◌-◌, ◌≤◌}
+use mathlib.Core.List.{◌++◌}
 use lib.ListN.{replicate}
-use borrow.Author.Rules.{rules}
-use Rattle.grid.specs.Sizes.{step_after, steps_to, sizes_by}
-use Rattle.grid.proofs.Steps.{first_step_lem, next_step, step_small, last_step, steps_next}
+use Rattle.grid.specs.Sizes.{step_after, steps_to}
 use Rattle.sizes.proofs.sizes_of.Given as goal
 
 abbrev pub invariant-loop-k : goal.invariant-loop-k

@@ -4,7 +4,6 @@ use lib.ListN.{get_or}
 use mir.Syntax.{w16}
 use mir.ValLaws.{to_z-of_z}
 use Rattle.slice_position.specs.Files.{acquisition_in}
-use borrow.Author.Rules.{rules}
 use Rattle.slice_position.proofs.acquisition_in.Goals as goal
 
 pub returns : goal.returns

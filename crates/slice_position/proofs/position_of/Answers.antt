@@ -5,7 +5,6 @@ use Rattle.position.specs.declared.Positioned.TheVariants.{Refused}
 use Rattle.position.specs.Positions.{position_by}
 use Rattle.slice_position.specs.Files.{position_at}
 use Rattle.slice_position.proofs.Shown.{shown_sform}
-use borrow.Author.Rules.{rules}
 use Rattle.slice_position.proofs.position_of.Goals as goal
 
 pub sform_in-requires : goal.sform_in-requires

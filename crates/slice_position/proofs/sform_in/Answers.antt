@@ -3,7 +3,6 @@ use mathlib.Core.Path.{◌∙◌}
 use mir.Syntax.{w16}
 use mir.ValLaws.{to_z-of_z}
 use Rattle.slice_position.specs.Files.{sform_in}
-use borrow.Author.Rules.{rules}
 use Rattle.slice_position.proofs.sform_in.Goals as goal
 
 pub returns : goal.returns

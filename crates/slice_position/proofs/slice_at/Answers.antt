@@ -5,7 +5,6 @@ use Rattle.timing.specs.declared.Slice.TheVariants.{Refused}
 use Rattle.timing.specs.Slices.{slice_by}
 use Rattle.slice_position.specs.Files.{slice_of}
 use Rattle.slice_position.proofs.Shown.{shown_acquisition}
-use borrow.Author.Rules.{rules}
 use Rattle.slice_position.proofs.slice_at.Goals as goal
 
 pub acquisition_in-requires : goal.acquisition_in-requires

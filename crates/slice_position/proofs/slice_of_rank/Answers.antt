@@ -5,7 +5,6 @@ use Rattle.slice_rank.specs.declared.Ranked.TheVariants.{Refused}
 use Rattle.slice_rank.specs.Ranked.{ranked_by}
 use Rattle.slice_position.specs.Files.{ranked_of}
 use Rattle.slice_position.proofs.Shown.{shown_acquisition}
-use borrow.Author.Rules.{rules}
 use Rattle.slice_position.proofs.slice_of_rank.Goals as goal
 
 pub acquisition_in-requires : goal.acquisition_in-requires

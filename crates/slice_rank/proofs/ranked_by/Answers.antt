@@ -2,14 +2,12 @@
 use mathlib.Core.Path.{◌≡◌, sym, ap, ◌∙◌}
 use mathlib.Core.Bool.{true}
 use native.Mathlib.Omega.{arith}
-use borrow.Author.Tests.{not-true, not-false}
 use Rattle.slice_order.specs.Slices.{slice_with}
 use Rattle.timing.specs.Slices.{is_stated}
 use Rattle.timing.proofs.Answers.{stated_has}
 use Rattle.slice_rank.specs.declared.Ranked.TheVariants.{At}
 use Rattle.slice_rank.specs.Ranked.{acquired_count}
 use Rattle.slice_rank.proofs.Theorems.{rank_unstated, rank_outside, rank_inside}
-use borrow.Author.Rules.{rules}
 use Rattle.slice_rank.proofs.ranked_by.Goals as goal
 
 pub returns-then-not-has_ranks : goal.returns-then-not-has_ranks

@@ -1,7 +1,6 @@
 -- `ranked_in` meets its contract: its answer is by the record's fields.
 use mathlib.Core.Path.{◌∙◌}
 use Rattle.slice_rank.specs.Ranked.{ranked_by}
-use borrow.Author.Rules.{rules}
 use Rattle.slice_rank.proofs.ranked_in.Goals as goal
 
 pub returns : goal.returns

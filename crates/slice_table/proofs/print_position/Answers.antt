@@ -1,6 +1,6 @@
 -- A position's values are finite.
 use Rattle.std.proofs.Common.{sym, ◌∙◌}
-use Rattle.slice_position.proofs.Slices.{file_position_finite}
+use Rattle.slice_position.proofs.Positions.{file_position_finite}
 use Rattle.slice_table.proofs.print_position.Goals as goal
 
 pub say_float-requires : goal.say_float-requires

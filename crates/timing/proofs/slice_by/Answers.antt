@@ -1,7 +1,6 @@
 -- `slice_by` meets its contract: fields that state no timing, and then the rest.
 use mathlib.Core.Path.{sym, ◌∙◌}
 use Rattle.timing.proofs.Answers.{slice_unstated}
-use borrow.Author.Rules.{rules}
 use Rattle.timing.proofs.slice_by.Goals as goal
 
 pub slice_stated-requires : goal.slice_stated-requires

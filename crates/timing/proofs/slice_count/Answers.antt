@@ -2,7 +2,6 @@
 use mathlib.Core.Path.{ap, ◌∙◌}
 use Rattle.number.specs.Natural.{natural_of}
 use Rattle.grid.specs.Axes.{dim_at}
-use borrow.Author.Rules.{rules}
 use Rattle.timing.proofs.slice_count.Goals as goal
 
 pub returns : goal.returns

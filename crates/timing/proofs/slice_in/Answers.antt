@@ -1,7 +1,6 @@
 -- `slice_in` meets its contract: its answer is by the record's fields.
 use mathlib.Core.Path.{◌∙◌}
 use Rattle.timing.specs.Slices.{slice_by}
-use borrow.Author.Rules.{rules}
 use Rattle.timing.proofs.slice_in.Goals as goal
 
 pub returns : goal.returns

@@ -7,7 +7,6 @@ use Rattle.timing.specs.Slices.{slice_count, first_slice, last_slice, rank_at, t
 use Rattle.slices.specs.Ranks.{rank_in}
 use Rattle.slices.specs.Times.{time_of}
 use Rattle.timing.proofs.Answers.{stated_has, slice_outside, acquired_within, slice_padding, slice_acquired}
-use borrow.Author.Rules.{rules}
 use Rattle.timing.proofs.slice_stated.Goals as goal
 
 pub returns-then-slice_count-s : goal.returns-then-slice_count-s

@@ -3,7 +3,6 @@ use mathlib.Core.Path.{◌≡◌, sym, ap, ◌∙◌}
 use Rattle.slices.specs.Ranks.{rank_in}
 use Rattle.slices.specs.Times.{time_of}
 use Rattle.timing.specs.Slices.{timed_by}
-use borrow.Author.Rules.{rules}
 use Rattle.timing.proofs.timed.Goals as goal
 
 pub returns-in-Finite : goal.returns-in-Finite

@@ -3,7 +3,6 @@ use Prim.Native.Nat.{◌+◌, ◌*◌, ◌/◌, ◌≤◌}
 use native.Mathlib.Omega.{arith}
 use native.Mathlib.Nat.{div-mul-le_self}
 use lib.ListN.{length}
-use borrow.Author.Rules.{rules}
 use Rattle.turning.proofs.turn_image.Goals as goal
 
 pub turn_many-requires : goal.turn_many-requires

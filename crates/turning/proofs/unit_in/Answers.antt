@@ -6,7 +6,6 @@ use mir.ValLaws.{to_z-of_z}
 use Rattle.turning.specs.Turn.{unit_of, unit_in}
 use Rattle.datatype.specs.Datatypes.{datatype_of}
 use Rattle.field.specs.Numbers.{i16_at}
-use borrow.Author.Rules.{rules}
 use Rattle.turning.proofs.unit_in.Goals as goal
 
 pub returns-in-Known : goal.returns-in-Known

@@ -3,7 +3,6 @@ use mathlib.Core.Path.{ap, ◌∙◌}
 use mir.Syntax.{w32}
 use mir.ValLaws.{to_z-of_z}
 use Rattle.answers.specs.Answers.{edit_reply}
-use borrow.Author.Rules.{rules}
 use Rattle.vestumbral.proofs.vestumbral_append.Goals as goal
 
 pub returns : goal.returns

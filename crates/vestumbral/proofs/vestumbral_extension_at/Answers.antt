@@ -1,7 +1,6 @@
 -- `vestumbral_extension_at` meets its contract: a refused file's outline is hidden, and an accepted one's shows the answer.
 use mathlib.Core.Path.{sym, ◌∙◌}
 use Rattle.answers.proofs.Shown.{hidden_extension, shown_extension_lem}
-use borrow.Author.Rules.{rules}
 use Rattle.vestumbral.proofs.vestumbral_extension_at.Goals as goal
 
 pub returns-in-Hidden : goal.returns-in-Hidden

@@ -1,7 +1,6 @@
 -- `vestumbral_line_by_voxel` meets its contract, which is that of `line_by_voxel`.
 use mathlib.Core.Path.{ap, ◌∙◌}
 use Rattle.answers.specs.Answers.{line_reply}
-use borrow.Author.Rules.{rules}
 use Rattle.vestumbral.proofs.vestumbral_line_by_voxel.Goals as goal
 
 pub returns : goal.returns

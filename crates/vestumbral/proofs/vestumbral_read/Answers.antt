@@ -1,7 +1,6 @@
 -- `vestumbral_read` meets its contract: a refused file's outline is hidden, and an accepted one's shows the answer.
 use mathlib.Core.Path.{sym, ◌∙◌}
 use Rattle.answers.proofs.Shown.{hidden_file}
-use borrow.Author.Rules.{rules}
 use Rattle.vestumbral.proofs.vestumbral_read.Goals as goal
 
 pub shown_file-requires : goal.shown_file-requires

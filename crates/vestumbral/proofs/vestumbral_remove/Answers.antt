@@ -1,7 +1,6 @@
 -- `vestumbral_remove` meets its contract, which is that of `remove`.
 use mathlib.Core.Path.{ap, ◌∙◌}
 use Rattle.answers.specs.Answers.{edit_reply}
-use borrow.Author.Rules.{rules}
 use Rattle.vestumbral.proofs.vestumbral_remove.Goals as goal
 
 pub returns : goal.returns

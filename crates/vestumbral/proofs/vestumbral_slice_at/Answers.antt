@@ -1,7 +1,6 @@
 -- `vestumbral_slice_at` meets its contract, which is that of `slice_at`.
 use mathlib.Core.Path.{ap, ◌∙◌}
 use Rattle.answers.specs.Answers.{slice_answer}
-use borrow.Author.Rules.{rules}
 use Rattle.vestumbral.proofs.vestumbral_slice_at.Goals as goal
 
 pub returns : goal.returns

@@ -1,7 +1,6 @@
 -- `vestumbral_slice_of_rank` meets its contract, which is that of `slice_of_rank`.
 use mathlib.Core.Path.{ap, ◌∙◌}
 use Rattle.answers.specs.Answers.{ranked_answer}
-use borrow.Author.Rules.{rules}
 use Rattle.vestumbral.proofs.vestumbral_slice_of_rank.Goals as goal
 
 pub returns : goal.returns

@@ -1,7 +1,6 @@
 -- `vestumbral_swap` meets its contract, which is that of `swap`.
 use mathlib.Core.Path.{ap, ◌∙◌}
 use Rattle.answers.specs.Answers.{swap_reply}
-use borrow.Author.Rules.{rules}
 use Rattle.vestumbral.proofs.vestumbral_swap.Goals as goal
 
 pub returns : goal.returns

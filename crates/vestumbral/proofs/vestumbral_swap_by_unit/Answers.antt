@@ -1,7 +1,6 @@
 -- `vestumbral_swap_by_unit` meets its contract, which is that of `swap_by_unit`.
 use mathlib.Core.Path.{ap, ◌∙◌}
 use Rattle.answers.specs.Answers.{swap_reply}
-use borrow.Author.Rules.{rules}
 use Rattle.vestumbral.proofs.vestumbral_swap_by_unit.Goals as goal
 
 pub returns : goal.returns

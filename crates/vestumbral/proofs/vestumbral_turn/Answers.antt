@@ -1,7 +1,6 @@
 -- `vestumbral_turn` meets its contract, which is that of `turn`.
 use mathlib.Core.Path.{ap, ◌∙◌}
 use Rattle.turn_answers.specs.Answers.{turned_answer}
-use borrow.Author.Rules.{rules}
 use Rattle.vestumbral.proofs.vestumbral_turn.Goals as goal
 
 pub returns : goal.returns

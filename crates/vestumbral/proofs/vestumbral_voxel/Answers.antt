@@ -1,7 +1,6 @@
 -- `vestumbral_voxel` meets its contract, which is that of `locate`.
 use mathlib.Core.Path.{ap, ◌∙◌}
 use Rattle.answers.specs.Answers.{voxel_reply}
-use borrow.Author.Rules.{rules}
 use Rattle.vestumbral.proofs.vestumbral_voxel.Goals as goal
 
 pub returns : goal.returns

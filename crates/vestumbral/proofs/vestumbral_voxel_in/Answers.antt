@@ -6,7 +6,6 @@ use Rattle.header.specs.declared.Kind.{Kind}
 use Rattle.voxel.specs.Steps.{volume, stepped_by}
 use Rattle.answers.specs.Answers.{voxel_reply}
 use Rattle.voxel_answers.specs.Answers.{voxel_in}
-use borrow.Author.Rules.{rules}
 use Rattle.vestumbral.proofs.vestumbral_voxel_in.Goals as goal
 
 pub returns-then-file-ne0 : goal.returns-then-file-ne0

@@ -1,10 +1,8 @@
 -- `locate_at` meets its contract, rule by rule: 17 and the sum by one loop, and 26 by the sum as far as rule 10 asks (proofs/Stepping.antt).
-use Prim.Native.Nat.{ℕ, ◌+◌}
+use Prim.Native.Nat.{◌+◌}
 use mathlib.Core.Path.{◌≡◌, sym, ◌∙◌}
 use mathlib.Core.Bool.{true, false}
-use mathlib.Core.List.{List}
 use native.Mathlib.Omega.{arith}
-use borrow.Author.Rules.{rules}
 use Rattle.grid.specs.Grid.{within}
 use Rattle.grid.specs.Axes.{dim_at, seven_axes}
 use Rattle.grid.specs.Sizes.{bytes_before, Reaches}
@@ -13,7 +11,6 @@ use Rattle.rules.specs.Rules.{axis_count, offset_outside, image_cut}
 use Rattle.rules.proofs.Passed.{inside_limit}
 use Rattle.rules.proofs.Sizes.{axes_few}
 use Rattle.voxel.specs.declared.Located.TheVariants.{At}
-use Rattle.voxel.specs.declared.Volume.{Volume}
 use Rattle.voxel.specs.Steps.{volume, image_at, first_step, strays, no_axes}
 use Rattle.voxel.proofs.Stepping.{stays, strays_like, stepped_2, stepped_9, stepped_16, stepped_17, stepped_26, stepped_at}
 use Rattle.voxel.proofs.locate_at.Goals as goal
@@ -73,9 +70,9 @@ returns-then-strays c =
     let whole : image_cut c.args.kind c.args.len (image_at (by)) ≡ false = sym c.image_cut.ensures ∙ c.if-image_cut.false in
     let inside : within (lengths) (at) ≡ true = reached_inside (answer) c.if-before.false in
     let strays-is : strays (by) (at) ≡ c.strays.result =
-        let a = c.args in
-        let like = (answer).inside (inside) in
-        sym (c.strays.ensures ∙ strays_like a.total (first_step (by)) c.bytes_before-before.result (bytes_before a.steps.now (at)) like) in
+    let a = c.args in
+    let like = (answer).inside (inside) in
+    sym (c.strays.ensures ∙ strays_like a.total (first_step (by)) c.bytes_before-before.result (bytes_before a.steps.now (at)) like) in
     c.unlocated-then-strays.ensures
     ∙ stepped_26 (by) c.args.len (at) (some) (low) (whole) (inside)
     (strays-is ∙ c.if-strays.true)
@@ -89,13 +86,13 @@ overflow_add-result c =
     let low : let a = c.args in offset_outside a.kind a.offset 0 ≡ false = sym c.offset_outside.ensures ∙ c.if-offset_outside.false in
     let inside : within (lengths) (at) ≡ true = reached_inside (answer) c.if-before.false in
     let strays-is : strays (by) (at) ≡ c.strays.result =
-        let a = c.args in
-        let like = (answer).inside (inside) in
-        sym (c.strays.ensures ∙ strays_like a.total (first_step (by)) c.bytes_before-before.result (bytes_before a.steps.now (at)) like) in
+    let a = c.args in
+    let like = (answer).inside (inside) in
+    sym (c.strays.ensures ∙ strays_like a.total (first_step (by)) c.bytes_before-before.result (bytes_before a.steps.now (at)) like) in
     let exact : c.bytes_before-before.result ≡ bytes_before c.args.steps.now (at) =
-        let a = c.args in
-        let k = stays a.total (bytes_before a.steps.now (at)) (first_step (by)) (strays-is ∙ c.if-strays.false) in
-        omega (arith, (answer).inside (inside)) in
+    let a = c.args in
+    let k = stays a.total (bytes_before a.steps.now (at)) (first_step (by)) (strays-is ∙ c.if-strays.false) in
+    omega (arith, (answer).inside (inside)) in
     let a = c.args in
     let k = stays a.total (bytes_before a.steps.now (at)) (first_step (by)) (strays-is ∙ c.if-strays.false) in
     record { fits = omega (arith, exact, inside_limit a.kind a.offset 0 (low)) }
@@ -111,13 +108,13 @@ returns c =
     let whole : image_cut c.args.kind c.args.len (image_at (by)) ≡ false = sym c.image_cut.ensures ∙ c.if-image_cut.false in
     let inside : within (lengths) (at) ≡ true = reached_inside (answer) c.if-before.false in
     let strays-is : strays (by) (at) ≡ c.strays.result =
-        let a = c.args in
-        let like = (answer).inside (inside) in
-        sym (c.strays.ensures ∙ strays_like a.total (first_step (by)) c.bytes_before-before.result (bytes_before a.steps.now (at)) like) in
+    let a = c.args in
+    let like = (answer).inside (inside) in
+    sym (c.strays.ensures ∙ strays_like a.total (first_step (by)) c.bytes_before-before.result (bytes_before a.steps.now (at)) like) in
     let exact : c.bytes_before-before.result ≡ bytes_before c.args.steps.now (at) =
-        let a = c.args in
-        let k = stays a.total (bytes_before a.steps.now (at)) (first_step (by)) (strays-is ∙ c.if-strays.false) in
-        omega (arith, (answer).inside (inside)) in
+    let a = c.args in
+    let k = stays a.total (bytes_before a.steps.now (at)) (first_step (by)) (strays-is ∙ c.if-strays.false) in
+    omega (arith, (answer).inside (inside)) in
     let a = c.args in
     (λ i. At (record { place = a.offset + exact i; length = first_step (by) }))
     ∙ stepped_at (by) a.len (at) (some) (low) (whole) (inside)

@@ -1,11 +1,9 @@
 -- `locate_record` meets its contract: what the offset's decoder answers, by rules 8 and 9, and else the rest.
 use mathlib.Core.Path.{ap, sym, ◌∙◌}
 use Prim.Native.Nat.{ℕ}
-use native.Mathlib.Omega.{arith}
 use Rattle.voxel.specs.declared.Located.TheVariants.{Unlocated}
 use Rattle.voxel.specs.Steps.{volume, stepped_by}
 use Rattle.voxel.proofs.Stepping.{in_refused, in_whole}
-use borrow.Author.Rules.{rules}
 use Rattle.voxel.proofs.locate_record.Goals as goal
 
 pub returns-in-Refused : goal.returns-in-Refused

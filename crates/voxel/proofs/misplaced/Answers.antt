@@ -1,6 +1,5 @@
 -- `misplaced` meets its contract: rule 2, and then the number that it is given.
 use mathlib.Core.Path.{sym, ◌∙◌}
-use borrow.Author.Rules.{rules}
 use Rattle.voxel.proofs.misplaced.Goals as goal
 
 pub returns-then-no_axes : goal.returns-then-no_axes

@@ -1,9 +1,6 @@
 -- `run_in` meets its contract: after k turns the greatest is that of the record's first k voxels.
 use mathlib.Core.Path.{◌≡◌, sym}
-use Prim.Native.Nat.{◌-◌, ◌≤◌}
 use native.Mathlib.Omega.{arith}
-use borrow.Author.Rules.{rules}
-use Rattle.voxel_run.specs.Farthest.{farthest_in}
 use Rattle.voxel_run.proofs.Farthest.{most_none, most_next}
 use Rattle.voxel_run.proofs.run_in.Goals as goal
 
@@ -11,12 +8,11 @@ pub loop-k-init : goal.loop-k-init
 loop-k-init c = (omega arith, sym (most_none _))
 
 pub loop-k-preserved : goal.loop-k-preserved
-loop-k-preserved c =
-    (
-      omega arith,
-      most_next _ c.loop-k.k c.loop-k.invariant.1
-          c.locate_in-located.ensures c.place_of.ensures c.greater-most.ensures,
-    )
+loop-k-preserved c = (
+  omega arith,
+  most_next _ c.loop-k.k c.loop-k.invariant.1
+      c.locate_in-located.ensures c.place_of.ensures c.greater-most.ensures,
+)
 
 pub returns : goal.returns
 returns c =

@@ -1,10 +1,7 @@
 -- `run_in` meets its contract: after k turns the greatest is that of the record's first k voxels.
-use mathlib.Core.Path.{◌≡◌, sym}
+use mathlib.Core.Path.{◌≡◌}
 use Prim.Native.Nat.{◌-◌, ◌≤◌}
-use native.Mathlib.Omega.{arith}
-use borrow.Author.Rules.{rules}
 use Rattle.voxel_run.specs.Farthest.{farthest_in}
-use Rattle.voxel_run.proofs.Farthest.{most_none, most_next}
 use Rattle.voxel_run.proofs.run_in.Given as goal
 
 abbrev pub invariant-loop-k : goal.invariant-loop-k

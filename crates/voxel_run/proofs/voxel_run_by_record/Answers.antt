@@ -1,7 +1,6 @@
 -- `voxel_run_by_record` meets its contract: a refused file has no voxel, and of an accepted one the record is asked.
 use mathlib.Core.Path.{sym, ◌∙◌}
 use Rattle.voxel_run.proofs.Farthest.{farthest_refused, farthest_accepted}
-use borrow.Author.Rules.{rules}
 use Rattle.voxel_run.proofs.voxel_run_by_record.Goals as goal
 
 pub returns-in-Refused : goal.returns-in-Refused

@@ -1,15 +1,12 @@
 -- `write` meets its contract: the record's rules, its sizes and aligned fact, then the buffer's length, and then the header's stores.
 use mathlib.Core.Path.{◌≡◌, sym, ◌∙◌}
-use mathlib.Core.Bool.{Bool}
 use native.Mathlib.Omega.{arith}
 use Rattle.refusal.proofs.Rows.{accepted_clear}
-use Rattle.rules.specs.declared.Image.{Image}
 use Rattle.rules.specs.declared.Judged.TheVariants.{Passed}
 use Rattle.rules.specs.Rules.{record_rows, record_judged, shape_of_record}
 use Rattle.rules.proofs.Passed.{record_passed_is}
 use Rattle.rules.proofs.Sizes.{shape_measured}
 use Rattle.writer.proofs.Writing.{writes_failed, writes_26, writes_22, writes_all}
-use borrow.Author.Rules.{rules}
 use Rattle.writer.proofs.write.Goals as goal
 
 pub has_wrong_facts-requires : goal.has_wrong_facts-requires

@@ -1,5 +1,4 @@
 -- `Walker::step` meets its contract: the part of the file that is handed on is `rest_of`, whatever the state is.
-use borrow.Author.Rules.{rules}
 use Rattle.extension.specs.Walk.{step_of}
 use Rattle.extension.proofs.Regions.{part_rest}
 use Rattle.extension.proofs.Walker.step.Goals as goal

@@ -1,17 +1,14 @@
 -- `Walker::step_by` meets its contract: each return is one outcome of `found_by` (proofs/Found.antt).
-use Prim.Native.Nat.{ℕ, ◌+◌}
+use Prim.Native.Nat.{◌+◌}
 use mathlib.Core.Path.{◌≡◌, sym, ◌∙◌}
 use mathlib.Core.Bool.{Bool, true}
 use native.Mathlib.Omega.{arith}
-use borrow.Author.Rules.{rules}
-use borrow.Author.Tests.{not-true, not-false}
-use lib.IntN.{ℤ, pos, nat_abs}
+use lib.IntN.{pos, nat_abs}
 use lib.Signed.{lt_z}
 use mir.Syntax.{w32}
 use mir.Val.{to_z, of_z}
 use mir.ValLaws.{to_z-of_z}
 use Rattle.extension.specs.declared.Step.TheVariants.{Extension}
-use Rattle.extension.specs.declared.Walker.{Walker}
 use Rattle.extension.specs.Walk.{size_rule, span}
 use Rattle.extension.proofs.Signs.{Ruled, ruled}
 use Rattle.extension.proofs.Found.{found_none, found_ended, found_limit, found_size, found_code, found_extension}

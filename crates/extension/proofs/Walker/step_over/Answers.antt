@@ -1,7 +1,6 @@
 -- `Walker::step_over` meets its contract: what is found depends on the rest's length and its first two numbers, and of fewer than
 -- 16 bytes on their number alone.
 use mathlib.Core.Path.{◌≡◌, ap, ◌∙◌}
-use borrow.Author.Rules.{rules}
 use lib.IntN.{pos}
 use lib.ListN.{length}
 use mir.Syntax.{w32}

@@ -1,6 +1,5 @@
 -- `Walker::step_within` meets its contract: the part of the file that is handed on is `rest_of`.
 use native.Mathlib.Omega.{arith}
-use borrow.Author.Rules.{rules}
 use Rattle.extension.specs.Walk.{step_of}
 use Rattle.extension.proofs.Regions.{part_rest}
 use Rattle.extension.proofs.Walker.step_within.Goals as goal
