@@ -2,13 +2,19 @@
 -- the start (proofs/Turning.antt).
 use Prim.Native.Nat.{◌-◌, ◌≤◌}
 use mathlib.Core.Path.{◌≡◌}
-use lib.ListN.{length}
+use lib.ListN.{length, drop}
+use Rattle.extension.specs.Walk.{first_place}
+use Rattle.units.specs.Runs.{turn_runs_at}
+use Rattle.turning.specs.Turn.{runs_in}
 use Rattle.turning.proofs.Turning.{Turning}
 use Rattle.turning.proofs.turn_list.Given as goal
 
 abbrev pub invariant-loop-k : goal.invariant-loop-k
 invariant-loop-k l =
-    (l.k ≤ l.count) × ((length l.file ≡ length l.initial.file) × Turning (goal l.order l.count l.initial.file) l.order (l.count - l.k) l.at l.file)
+    let s = l.initial.file in
+    (l.k ≤ l.count)
+    × ((length l.file ≡ length s)
+    × Turning (turn_runs_at first_place (runs_in l.order l.count (drop first_place s)) s) l.order (l.count - l.k) l.at l.file)
 
 abbrev pub decreases-loop-k : goal.decreases-loop-k
 decreases-loop-k l = l.count - l.k
