@@ -8,4 +8,7 @@ use Rattle.vestumbral.proofs.vestumbral_append.Goals as goal
 pub returns : goal.returns
 returns c =
     let same = to_z-of_z w32 c.args.code c.ranges.code in
-    (c.edit_reply.ensures ∙ ap edit_reply (rw same at c.append-edited.ensures.answer), rw same at c.append-edited.ensures.content)
+    record {
+      answer = c.edit_reply.ensures ∙ ap edit_reply (rw same at c.append-edited.ensures.answer);
+      content = rw same at c.append-edited.ensures.content;
+    }

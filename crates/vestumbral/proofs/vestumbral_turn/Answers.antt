@@ -6,4 +6,4 @@ use Rattle.vestumbral.proofs.vestumbral_turn.Goals as goal
 pub returns : goal.returns
 returns c =
     let made = rw c.turn_of-t.ensures at c.turn-turned.ensures in
-    (c.turned_answer.ensures ∙ ap turned_answer made.0, (made.1, made.2))
+    record { answer = c.turned_answer.ensures ∙ ap turned_answer made.0; content = made.1; image = made.2 }
