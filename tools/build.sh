@@ -7,11 +7,11 @@ log=$(mktemp)
 trap 'rm -f "$log"' EXIT
 for name; do
     if [ -e "crates/$name/src/main.rt" ]; then
-        rt run "$name" </dev/null >"$log" 2>&1 || [ -e "crates/$name/out/$name" ] || { tail -n 20 "$log"; exit 1; }
+        (cd "crates/$name" && rt run) </dev/null >"$log" 2>&1 || [ -e "crates/$name/out/$name" ] || { tail -n 20 "$log"; exit 1; }
         mkdir -p target/bin
         cp "crates/$name/out/$name" target/bin/
     else
-        rt lib "$name" >"$log" 2>&1 || { tail -n 20 "$log"; exit 1; }
+        (cd "crates/$name" && rt lib) >"$log" 2>&1 || { tail -n 20 "$log"; exit 1; }
         mkdir -p target/staticlib
         cp "crates/$name/out/lib$name.a" target/staticlib/
         grep '^logic=' "$log" | tail -n 1
