@@ -1,10 +1,10 @@
 #!/usr/bin/env bash
 # Runs the tests that stand outside `rt ci`: each is a folder here with an executable file `run`, which fails by its exit
-# status. They share the library and two programs, which are built first into target/; so as many run at a time as there are processors.
+# status. They share the library and three programs, which are built first into target/; so as many run at a time as there are processors.
 # What they print is kept and shown in order.
 set -euo pipefail
 cd "$(dirname "${BASH_SOURCE[0]}")/.."
-tools/build.sh vestumbral nifti_list piece_list
+tools/build.sh vestumbral nifti_list piece_list header_copy
 logs=$(mktemp -d)
 trap 'rm -rf "$logs"' EXIT
 count=0
