@@ -1,0 +1,2 @@
+-- The laws of the card's lines.
+pub mod Texts

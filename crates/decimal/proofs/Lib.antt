@@ -1,0 +1,4 @@
+-- The laws of a number in decimal.
+pub mod Decimals
+mod Writing
+pub mod Examples

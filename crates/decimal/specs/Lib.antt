@@ -1,0 +1,2 @@
+-- The definition that the contracts cite.
+pub mod Decimal

@@ -1,0 +1,2 @@
+-- The room that a card needs.
+mod Room

@@ -1,0 +1,2 @@
+-- The theorems on the card.
+mod Calls
