@@ -7,6 +7,7 @@ log=$(mktemp)
 trap 'rm -f "$log"' EXIT
 for name; do
     if [ -e "crates/$name/src/main.rt" ]; then
+        rm -f "crates/$name/out/$name"
         (cd "crates/$name" && rt run) </dev/null >"$log" 2>&1 || [ -e "crates/$name/out/$name" ] || { tail -n 20 "$log"; exit 1; }
         mkdir -p target/bin
         cp "crates/$name/out/$name" target/bin/

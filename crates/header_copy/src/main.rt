@@ -4,7 +4,6 @@
 
 use refusal::Verdict;
 use std::io;
-use std::io::Read;
 
 const LONGEST: usize = 65536;
 
@@ -23,13 +22,11 @@ fn copy(rt: &impl Print, file: &[u8]) -> io::Result<()> {
 }
 
 fn main(rt: HostRuntime) -> io::Result<()> {
-    let mut input = Vec::new(rt.alloc());
     // One byte more than is taken tells that the input is longer.
-    rt.reader()
-        .take(LONGEST as u64 + 1)
-        .read_to_end(&mut input)?;
-    if LONGEST < input.len() {
+    let mut buffer = [0u8; LONGEST + 1];
+    let n = read_input::read_full(&rt, &mut buffer)?;
+    if LONGEST < n {
         return Ok(());
     }
-    copy(&rt, &input)
+    copy(&rt, &buffer[..n])
 }

@@ -9,7 +9,6 @@
 
 use line_copy::{Engine, Lined};
 use std::io;
-use std::io::Read;
 
 fn say(rt: &impl Print, text: &[u8]) -> io::Result<()> {
     rt.write_all(text)
@@ -129,10 +128,10 @@ fn print_line(
 }
 
 fn main(rt: HostRuntime) -> io::Result<()> {
-    let mut input = Vec::new(rt.alloc());
     // One byte more than the file has tells that the input is longer: it is then another file.
-    rt.reader().take(401).read_to_end(&mut input)?;
-    let file = &input;
+    let mut buffer = [0u8; 401];
+    let n = read_input::read_full(&rt, &mut buffer)?;
+    let file = &buffer[..n];
     print_line(&rt, file, 8, 1, 1, 1, 0, 1)?;
     print_line(&rt, file, 8, 2, 1, 1, 0, 1)?;
     print_line(&rt, file, 8, 3, 1, 1, 0, 1)?;

@@ -3,19 +3,16 @@
 #![tactic(auto)]
 
 use std::io;
-use std::io::Read;
 
 // The longest file that is listed.
 const LONGEST: usize = 65536;
 
 fn main(rt: HostRuntime) -> io::Result<()> {
-    let mut input = Vec::new(rt.alloc());
     // One byte more than is listed tells that the input is longer.
-    rt.reader()
-        .take(LONGEST as u64 + 1)
-        .read_to_end(&mut input)?;
-    if LONGEST < input.len() {
+    let mut buffer = [0u8; LONGEST + 1];
+    let n = read_input::read_full(&rt, &mut buffer)?;
+    if LONGEST < n {
         return listing_print::put(&rt, b"too long\n");
     }
-    listing_print::put_reading(&rt, reader::read(&input))
+    listing_print::put_reading(&rt, reader::read(&buffer[..n]))
 }

@@ -12,7 +12,6 @@
 #![tactic(auto)]
 
 use std::io;
-use std::io::Read;
 use turn::Turned;
 
 fn say(rt: &impl Print, text: &[u8]) -> io::Result<()> {
@@ -89,9 +88,9 @@ fn print_turned(
 }
 
 fn main(rt: HostRuntime) -> io::Result<()> {
-    let mut input = Vec::new(rt.alloc());
-    rt.reader().take(384).read_to_end(&mut input)?;
-    let file = &input;
+    let mut buffer = [0u8; 384];
+    let n = read_input::read_full(&rt, &mut buffer)?;
+    let file = &buffer[..n];
     print_turned(&rt, file, 1, 2, 3, 0, 0, 0)?;
     print_turned(&rt, file, 1, 3, 2, 0, 0, 0)?;
     print_turned(&rt, file, 2, 1, 3, 0, 0, 0)?;

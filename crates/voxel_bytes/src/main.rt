@@ -11,7 +11,6 @@
 #![tactic(auto)]
 
 use std::io;
-use std::io::Read;
 
 const SINGLE_END: usize = 364;
 
@@ -84,10 +83,8 @@ fn print_files(rt: &impl Print, input: &[u8]) -> io::Result<()> {
 }
 
 fn main(rt: HostRuntime) -> io::Result<()> {
-    let mut input = Vec::new(rt.alloc());
     // One byte more than is taken tells that the input is longer.
-    rt.reader()
-        .take(IMAGE_END as u64 + 1)
-        .read_to_end(&mut input)?;
-    print_files(&rt, &input)
+    let mut buffer = [0u8; IMAGE_END + 1];
+    let n = read_input::read_full(&rt, &mut buffer)?;
+    print_files(&rt, &buffer[..n])
 }
