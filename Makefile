@@ -16,7 +16,7 @@ check:
 	rt ci 2>&1 | tee "$$log" | sed -u '$$d' || { tail -n 1 "$$log"; exit 1; }
 	! grep -E '^rt: ok.*, [1-9][0-9]* bad' "$$log" || exit 1
 	tests/run.sh
-	tail -n 1 "$$log" | grep -Ex '[0-9]+ passed, 0 failed.*'
+	tail -n 1 "$$log" | grep -Ex '[0-9]+ passed, 0 failed'
 
 demo: library
 	@tools/build.sh nifti_list
