@@ -1,4 +1,4 @@
-# check: the gate, everything from nothing. demo: the listing of file A of 01-scope.md, then the console's story in C.
+# check: the gate, all of it; what rt ci has passed on this machine it keeps. demo: the listing of file A of 01-scope.md, then the console's story in C.
 # The library for C is target/staticlib/libvestumbral.a, with include/vestumbral.h.
 SHELL := /bin/bash
 .SHELLFLAGS := -euo pipefail -c

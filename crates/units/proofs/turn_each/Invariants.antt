@@ -1,5 +1,5 @@
 -- `turn_each` meets its contract. The invariant: the units that are left, turned round from `at`, come to what the whole was to be at the start. A turn
--- of the loop is `turned_next`, since what `bytes::reverse` leaves is one unit turned round.
+-- of the loop is `turned_next`, since a part reversed in place is one unit turned round.
 use lib.ListN.{length}
 use Prim.Native.Nat.{◌+◌, ◌*◌, ◌≤◌}
 use mathlib.Core.Path.{◌≡◌}
