@@ -1,4 +1,6 @@
 -- Worked examples, computed: positions by their bit patterns, and a row of the stated case. Assumes nothing.
+use Rattle.std.specs.Prelude.{Some, None, Option}
+use Rattle.affine.specs.declared.Position.{Position}
 use mathlib.Core.Path.{◌≡◌, refl}
 use mathlib.Core.List.{List, [], ◌∷◌}
 use Prim.Native.Nat.{ℕ}
@@ -6,16 +8,14 @@ use mathlib.Core.Bool.{true, false}
 use lib.Dec.{lit≤}
 use lib.IntN.{pos, negsuc}
 use lib.Ieee.{binary32, add, mul, of_int, of_bits, to_bits}
-use Rattle.affine.specs.declared.Placed.{Placed}
-use Rattle.affine.specs.declared.Placed.TheVariants.{At, NoPosition}
 use Rattle.refusal.specs.Table.{verdict}
 use Rattle.affine.specs.Method.{finite_row, position_of}
 use Rattle.affine.specs.Whole.{WholeRow}
 
 -- the patterns of a position's three values; none where there is no position
-abbrev patterns : Placed → List ℕ
-patterns NoPosition = []
-patterns (At p) = to_bits binary32 p.x ∷ to_bits binary32 p.y ∷ to_bits binary32 p.z ∷ []
+abbrev patterns : Option Position → List ℕ
+patterns None = []
+patterns (Some p) = to_bits binary32 p.x ∷ to_bits binary32 p.y ∷ to_bits binary32 p.z ∷ []
 
 abbrev rounded_row : List ℕ
 rounded_row = 0xbf09_b16b ∷ 0x4006_4993 ∷ 0xc07e_ebf5 ∷ 0xbedf_b1ad ∷ []

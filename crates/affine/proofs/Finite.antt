@@ -1,21 +1,21 @@
--- When a number of binary32 is finite: by comparison with the infinities, and by the exponent's field of its pattern. Assumes nothing.
+-- When a number of binary32 is finite: by std's word, and by the exponent's field of its pattern. Assumes nothing.
 use mathlib.Core.Path.{◌≡◌, refl, sym, ap, ◌∙◌}
-use mathlib.Core.Bool.{Bool, true, false, not, cond, ◌&&◌, and-eq-true_iff}
+use mathlib.Core.Bool.{Bool, true, false, not, cond, and-eq-true_iff}
 use mathlib.Core.List.{List}
 use Prim.Native.Nat.{ℕ, zero, suc, ◌+◌, ◌/◌, ◌%◌}
 use native.Mathlib.Omega.{arith}
 use lib.Dec.{leb, eqb}
-use lib.Ieee.{Float, nan, inf, fin, binary32, lt, odd, of_fields, of_bits}
+use lib.Ieee.{Float, nan, inf, fin, binary32, odd, of_fields, of_bits}
 use lib.Ieee.Scale.{finite}
+use Rattle.std.specs.Float.{float_is_finite}
 use Rattle.number.proofs.Floats.{no_nan}
 use Rattle.affine.specs.Method.{finite_row, NoNan}
 
-pub between_infinities : (x : Float) → (lt (inf true) x && lt x (inf false)) ≡ finite x
-unfolding lt
-between_infinities nan = refl
-between_infinities (inf true) = refl
-between_infinities (inf false) = refl
-between_infinities (fin s m e) = refl
+pub is_finite_lem : (x : Float) → float_is_finite x ≡ finite x
+unfolding float_is_finite
+is_finite_lem nan = refl
+is_finite_lem (inf s) = refl
+is_finite_lem (fin s m e) = refl
 
 -- ---- by the exponent's field
 odd_finite : (s : Bool) (q k : ℕ) → finite (odd 24 s q k 149) ≡ true

@@ -1,5 +1,6 @@
 -- What holds of every position: its three values are finite; and in the case that 01-scope.md states they are the exact whole numbers. Both
 -- speak of `position_of`, which is what `place` answers. Assumes nothing.
+use Rattle.std.specs.Prelude.{Some, None}
 use mathlib.Core.Path.{◌≡◌, refl, sym, ap, ◌∙◌}
 use mathlib.Core.Bool.{Bool, true, false, not, ◌&&◌, ◌||◌, and-eq-true_iff, true≢false}
 use mathlib.Core.List.{List, [], ◌∷◌}
@@ -12,7 +13,6 @@ use lib.Ieee.Scale.{finite}
 use Rattle.refusal.specs.Table.{Row, verdict}
 use Rattle.refusal.proofs.Rows.{Clear, none, one, accepted_clear, decided_accepted}
 use Rattle.affine.specs.declared.Position.{Position}
-use Rattle.affine.specs.declared.Placed.TheVariants.{At, NoPosition}
 use Rattle.affine.specs.Method.{number_at, row_of, results_of, finite_results, finite_row, srow_of, finite_rows, place_rows, position_of}
 use Rattle.affine.specs.Whole.{first_limit, last_limit, IsWhole, WholeRow, exact_of, PlacedExactly}
 use Rattle.affine.proofs.Exact.{within, index_within, mul_within, add_within}
@@ -62,10 +62,10 @@ last_holds true true e = refl
 last_holds true false e = sym e
 last_holds false b e = absurd (true≢false e)
 
-no_position_never : {p : Position} → NoPosition ≡ At p → ⊥
-no_position_never e = let z : ◌≡◌ {A = ℕ} 0 1 = cc in omega arith
+no_position_never : {p : Position} → None ≡ Some p → ⊥
+no_position_never e = cc
 
-pub position_finite : (x y z : List ℕ) (i j k : ℕ) (p : Position) → position_of x y z i j k ≡ At p
+pub position_finite : (x y z : List ℕ) (i j k : ℕ) (p : Position) → position_of x y z i j k ≡ Some p
     → (finite p.x ≡ true) × (finite p.y ≡ true) × (finite p.z ≡ true)
 unfolding position_of
 position_finite x y z i j k p e =

@@ -1,14 +1,14 @@
 -- The position by Method 3 in binary32 (01-scope.md, "Slices and positions", second paragraph). A row, as srow_x, is the list of its four
 -- numbers' bit patterns. What a row holds past its end counts as 0.
-use Rattle.std.specs.Prelude.{ℕ, Bool, not, ◌&&◌, ◌||◌, List, [], ◌∷◌, get_or, T, pos, Float}
+use Rattle.refusal.specs.declared.Rule.TheVariants.{NoPosition}
+use Rattle.std.specs.Prelude.{ℕ, Bool, not, ◌&&◌, ◌||◌, List, [], ◌∷◌, get_or, T, pos, Float, Some, None, Option}
 use Rattle.std.specs.Float.{binary32}
 use Rattle.std.specs.Float.Ieee.{add, mul, of_int, of_bits, nan_bits}
 use Rattle.std.specs.Float.Ieee.Scale.{finite}
 use Rattle.refusal.specs.Table.{Row, row, verdict, decided}
 use Rattle.affine.specs.declared.Position.{Position}
+use Rattle.affine.specs.declared.RowNumbers.{RowNumbers}
 use Rattle.affine.specs.declared.Srow.{Srow}
-use Rattle.affine.specs.declared.Placed.{Placed}
-use Rattle.affine.specs.declared.Placed.TheVariants.{At, NoPosition}
 
 -- the number at a place of a row
 abbrev pub number_at : List ℕ → ℕ → Float
@@ -29,9 +29,9 @@ row_of s0 s1 s2 s3 i j k =
 abbrev pub results_of : Srow → ℕ → ℕ → ℕ → Position
 results_of s i j k =
     record {
-      x = row_of s.x0 s.x1 s.x2 s.x3 i j k;
-      y = row_of s.y0 s.y1 s.y2 s.y3 i j k;
-      z = row_of s.z0 s.z1 s.z2 s.z3 i j k;
+      x = row_of s.x.s0 s.x.s1 s.x.s2 s.x.s3 i j k;
+      y = row_of s.y.s0 s.y.s1 s.y.s2 s.y.s3 i j k;
+      z = row_of s.z.s0 s.z.s1 s.z.s2 s.z.s3 i j k;
     }
 
 -- all three results are finite
@@ -49,23 +49,12 @@ pub record NoNan (row : List ℕ) : Type 0 where
   pub n2 : T (not (nan_bits binary32 (get_or row 2 0)))
   pub n3 : T (not (nan_bits binary32 (get_or row 3 0)))
 
--- the record of three rows
+-- the numbers of a row, and the record of three rows
+abbrev pub row_numbers : List ℕ → RowNumbers
+row_numbers row = record { s0 = number_at row 0; s1 = number_at row 1; s2 = number_at row 2; s3 = number_at row 3 }
+
 abbrev pub srow_of : List ℕ → List ℕ → List ℕ → Srow
-srow_of x y z =
-    record {
-      x0 = number_at x 0;
-      x1 = number_at x 1;
-      x2 = number_at x 2;
-      x3 = number_at x 3;
-      y0 = number_at y 0;
-      y1 = number_at y 1;
-      y2 = number_at y 2;
-      y3 = number_at y 3;
-      z0 = number_at z 0;
-      z1 = number_at z 1;
-      z2 = number_at z 2;
-      z3 = number_at z 3;
-    }
+srow_of x y z = record { x = row_numbers x; y = row_numbers y; z = row_numbers z }
 
 -- all twelve numbers are finite
 abbrev pub finite_rows : List ℕ → List ℕ → List ℕ → Bool
@@ -73,8 +62,8 @@ finite_rows x y z = finite_row x && finite_row y && finite_row z
 
 -- "23 is given exactly when .. one of the twelve is not finite, or a result is not finite"
 abbrev pub place_rows : List ℕ → List ℕ → List ℕ → ℕ → ℕ → ℕ → List Row
-place_rows x y z i j k = row 23 (not (finite_rows x y z) || not (finite_results (results_of (srow_of x y z) i j k))) 0 ∷ []
+place_rows x y z i j k = row NoPosition (not (finite_rows x y z) || not (finite_results (results_of (srow_of x y z) i j k))) 0 ∷ []
 
 -- The position of the voxel i, j, k by the rows x, y and z: its three values, and none where 23 is given.
-unfoldable pub position_of : List ℕ → List ℕ → List ℕ → ℕ → ℕ → ℕ → Placed
-position_of x y z i j k = decided (verdict (place_rows x y z i j k)) (At (results_of (srow_of x y z) i j k)) (λ r. NoPosition)
+unfoldable pub position_of : List ℕ → List ℕ → List ℕ → ℕ → ℕ → ℕ → Option Position
+position_of x y z i j k = decided (verdict (place_rows x y z i j k)) (Some (results_of (srow_of x y z) i j k)) (λ r. None)

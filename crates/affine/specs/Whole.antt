@@ -1,10 +1,9 @@
 -- The stated case in which a position is exact: 01-scope.md, "If the first three numbers of each row are whole and at most 64 in size, and its
 -- last is whole and at most 8,388,608 in size, the position is the exact whole number." Numbers are compared by value: of a zero the sign is left
 -- open, so -0 can be an answer.
-use Rattle.std.specs.Prelude.{◌≡◌, Bool, true, false, List, ℕ, ◌≤◌, ℤ, pos, neg_ℤ, nat_abs, ◌+ℤ◌, ◌*ℤ◌, Float}
+use Rattle.affine.specs.declared.Position.{Position}
+use Rattle.std.specs.Prelude.{◌≡◌, Bool, true, false, List, ℕ, ◌≤◌, ℤ, pos, neg_ℤ, nat_abs, ◌+ℤ◌, ◌*ℤ◌, Float, Some, None, Option}
 use Rattle.std.specs.Float.Ieee.Exact.{HasValue}
-use Rattle.affine.specs.declared.Placed.{Placed}
-use Rattle.affine.specs.declared.Placed.TheVariants.{At, NoPosition}
 use Rattle.affine.specs.Method.{number_at}
 
 -- the integer of a sign, negative where it is true, and a size
@@ -47,6 +46,6 @@ abbrev pub exact_of : {row : List ℕ} → WholeRow row → ℕ → ℕ → ℕ 
 exact_of w i j k = w.n0 *ℤ pos i +ℤ w.n1 *ℤ pos j +ℤ w.n2 *ℤ pos k +ℤ w.n3
 
 -- an answer that is the position of three whole numbers
-abbrev pub PlacedExactly : Placed → ℤ → ℤ → ℤ → Type 0
-PlacedExactly NoPosition x y z = ⊥
-PlacedExactly (At p) x y z = IsWhole p.x x × IsWhole p.y y × IsWhole p.z z
+abbrev pub PlacedExactly : Option Position → ℤ → ℤ → ℤ → Type 0
+PlacedExactly None x y z = ⊥
+PlacedExactly (Some p) x y z = IsWhole p.x x × IsWhole p.y y × IsWhole p.z z

@@ -1,4 +1,5 @@
 -- A file's answers by its outline are those of its reading: its refusal where the outline is hidden, and else what the outline shows.
+use Rattle.std.specs.Prelude.{Ok, Err}
 use Prim.Native.Nat.{ℕ}
 use mathlib.Core.Path.{◌≡◌, ap, sym, ◌∙◌}
 use mathlib.Core.List.{List}
@@ -9,13 +10,12 @@ use Rattle.header.specs.Fields.{header_of}
 use Rattle.rules.specs.Rules.{completed}
 use Rattle.reader.specs.Reading.{reading_of}
 use Rattle.outline.specs.declared.Outline.{Outline}
-use Rattle.outline.specs.declared.Outlined.TheVariants.{Shown, Hidden}
 use Rattle.outline.specs.Outline.{outline_of}
 use Rattle.outline.proofs.Outlines.{hidden_reading, shows, shown_reading, shown_span}
 use Rattle.answers.specs.Answers.{shown_file, refused_file, file_answer, refused_extension, extension_shown, extension_answer}
 
 module _ (s : List ℕ) (wanted : ℕ) where
-  module _ (r : Refusal) (e : outline_of wanted s ≡ Hidden r) where
+  module _ (r : Refusal) (e : outline_of wanted s ≡ Err r) where
     pub hidden_file : refused_file r ≡ file_answer (reading_of s)
     unfolding file_answer
     hidden_file = sym (ap file_answer (hidden_reading s wanted r e))
@@ -24,7 +24,7 @@ module _ (s : List ℕ) (wanted : ℕ) where
     unfolding extension_answer
     hidden_extension = sym (ap (λ x. extension_answer x wanted) (hidden_reading s wanted r e))
 
-  module _ (o : Outline) (e : outline_of wanted s ≡ Shown o) where
+  module _ (o : Outline) (e : outline_of wanted s ≡ Ok o) where
     abbrev spans : List Span
     spans = spans_of (shows s wanted o e).list
 

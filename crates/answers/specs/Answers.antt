@@ -1,13 +1,16 @@
 -- The structs of the C interface: for each answer of the library, the paper's number and values of each case. Refusal 0 stands for
 -- success, and beside a refusal every other number but the place is 0.
-use Rattle.std.specs.Prelude.{ℕ, Bool, true, false, cond, ltb, pos, Float, get_or, replicate}
+use Rattle.refusal.specs.declared.Rule.TheVariants.{NoSuchExtension}
+use Rattle.edit.specs.declared.NewFile.{NewFile}
+use Rattle.affine.specs.declared.Position.{Position}
+use Rattle.voxel.specs.declared.Extent.{Extent}
+use Rattle.timing.specs.declared.Slice.TheVariants.{Unstated, Padding, Timed}
+use Rattle.std.specs.Prelude.{ℕ, Bool, true, false, cond, ltb, pos, Float, get_or, replicate, Ok, Err, Some, None, Result, Option}
 use Rattle.std.specs.Float.{fin}
 use Rattle.field.specs.declared.Order.{Order}
 use Rattle.field.specs.declared.Order.TheVariants.{Little, Big}
 use Rattle.refusal.specs.declared.Refusal.{Refusal}
-use Rattle.refusal.specs.declared.Verdict.{Verdict}
-use Rattle.refusal.specs.declared.Verdict.TheVariants.{Accepted, Refused}
-use Rattle.refusal.specs.Table.{refusal, decided}
+use Rattle.refusal.specs.Table.{refusal, decided, Verdict, number_of}
 use Rattle.extension.specs.declared.Span.{Span}
 use Rattle.extension.specs.Listing.{no_span}
 use Rattle.header.specs.declared.Header.{Header}
@@ -15,18 +18,7 @@ use Rattle.header.specs.declared.Kind.{Kind}
 use Rattle.header.specs.declared.Kind.TheVariants.{Single, Pair}
 use Rattle.rules.specs.declared.Image.{Image}
 use Rattle.reader.specs.declared.Reading.{Reading}
-use Rattle.voxel.specs.declared.Located.{Located}
-use Rattle.voxel.specs.declared.Located.TheVariants.{At, Unlocated}
 use Rattle.timing.specs.declared.Slice.{Slice}
-use Rattle.timing.specs.declared.Slice.TheVariants as slice
-use Rattle.slice_rank.specs.declared.Ranked.{Ranked}
-use Rattle.slice_rank.specs.declared.Ranked.TheVariants as ranked
-use Rattle.position.specs.declared.Positioned.{Positioned}
-use Rattle.position.specs.declared.Positioned.TheVariants as position
-use Rattle.line_copy.specs.declared.Lined.{Lined}
-use Rattle.line_copy.specs.declared.Lined.TheVariants as lined
-use Rattle.edit.specs.declared.Edited.{Edited}
-use Rattle.edit.specs.declared.Edited.TheVariants.{Done, Denied}
 use Rattle.answers.specs.declared.Reply.{Reply}
 use Rattle.answers.specs.declared.FileAnswer.{FileAnswer}
 use Rattle.answers.specs.declared.ExtensionAnswer.{ExtensionAnswer}
@@ -36,22 +28,22 @@ use Rattle.answers.specs.declared.PositionAnswer.{PositionAnswer}
 
 -- a refusal as a reply
 abbrev pub refused_reply : Refusal → Reply
-refused_reply r = record { refusal = r.number; place = r.place; length = 0; aligned = 0 }
+refused_reply r = record { refusal = number_of r.rule; place = r.place; length = 0; aligned = 0 }
 
 -- a voxel's place and length
-abbrev pub voxel_reply : Located → Reply
-voxel_reply (At e) = record { refusal = 0; place = e.place; length = e.length; aligned = 0 }
-voxel_reply (Unlocated r) = refused_reply r
+abbrev pub voxel_reply : Result Extent Refusal → Reply
+voxel_reply (Ok e) = record { refusal = 0; place = e.place; length = e.length; aligned = 0 }
+voxel_reply (Err r) = refused_reply r
 
 -- a swap has no number of its own
 abbrev pub swap_reply : Verdict → Reply
-swap_reply Accepted = record { refusal = 0; place = 0; length = 0; aligned = 0 }
-swap_reply (Refused r) = refused_reply r
+swap_reply (Ok tt) = record { refusal = 0; place = 0; length = 0; aligned = 0 }
+swap_reply (Err r) = refused_reply r
 
 -- the bytes of a line
-abbrev pub line_reply : Lined → Reply
-line_reply (lined.Copied n) = record { refusal = 0; place = 0; length = n; aligned = 0 }
-line_reply (lined.Refused r) = refused_reply r
+abbrev pub line_reply : Result ℕ Refusal → Reply
+line_reply (Ok n) = record { refusal = 0; place = 0; length = n; aligned = 0 }
+line_reply (Err r) = refused_reply r
 
 -- whether an offset is aligned: 1, and 0 where it is not
 abbrev pub is_aligned : Bool → ℕ
@@ -59,9 +51,9 @@ is_aligned true = 1
 is_aligned false = 0
 
 -- an edit answers the new length, and whether the new offset is aligned
-abbrev pub edit_reply : Edited → Reply
-edit_reply (Done file) = record { refusal = 0; place = 0; length = file.length; aligned = is_aligned file.aligned }
-edit_reply (Denied r) = refused_reply r
+abbrev pub edit_reply : Result NewFile Refusal → Reply
+edit_reply (Ok file) = record { refusal = 0; place = 0; length = file.length; aligned = is_aligned file.aligned }
+edit_reply (Err r) = refused_reply r
 
 abbrev pub big_endian : Order → ℕ
 big_endian Little = 0
@@ -92,7 +84,7 @@ shown_file h i =
 abbrev pub refused_file : Refusal → FileAnswer
 refused_file r =
     record {
-      refusal = r.number;
+      refusal = number_of r.rule;
       place = r.place;
       data_offset = 0;
       data_bytes = 0;
@@ -114,11 +106,11 @@ abbrev pub shown_extension : Span → ExtensionAnswer
 shown_extension x = record { refusal = 0; place = 0; start = x.start; size = x.size; code = x.code }
 
 abbrev pub refused_extension : Refusal → ExtensionAnswer
-refused_extension r = record { refusal = r.number; place = r.place; start = 0; size = pos 0; code = pos 0 }
+refused_extension r = record { refusal = number_of r.rule; place = r.place; start = 0; size = pos 0; code = pos 0 }
 
 -- the one that is asked for, its span beside how many there are
 abbrev pub extension_shown : ℕ → Span → ℕ → ExtensionAnswer
-extension_shown count x n = cond (ltb n count) (shown_extension x) (refused_extension (refusal 18 0))
+extension_shown count x n = cond (ltb n count) (shown_extension x) (refused_extension (refusal NoSuchExtension 0))
 
 unfoldable pub extension_answer : Reading → ℕ → ExtensionAnswer
 extension_answer r n =
@@ -129,19 +121,19 @@ abbrev pub plus_zero : Float
 plus_zero = fin false 0 (pos 0)
 
 -- a slice: state 0 unstated, 1 padding, 2 timed
-abbrev pub slice_answer : Slice → SliceAnswer
-slice_answer (slice.Refused r) = record { refusal = r.number; place = r.place; state = 0; rank = 0; seconds = plus_zero }
-slice_answer slice.Unstated = record { refusal = 0; place = 0; state = 0; rank = 0; seconds = plus_zero }
-slice_answer slice.Padding = record { refusal = 0; place = 0; state = 1; rank = 0; seconds = plus_zero }
-slice_answer (slice.Timed rank t) = record { refusal = 0; place = 0; state = 2; rank = rank; seconds = t }
+abbrev pub slice_answer : Result Slice Refusal → SliceAnswer
+slice_answer (Err r) = record { refusal = number_of r.rule; place = r.place; state = 0; rank = 0; seconds = plus_zero }
+slice_answer (Ok Unstated) = record { refusal = 0; place = 0; state = 0; rank = 0; seconds = plus_zero }
+slice_answer (Ok Padding) = record { refusal = 0; place = 0; state = 1; rank = 0; seconds = plus_zero }
+slice_answer (Ok (Timed rank t)) = record { refusal = 0; place = 0; state = 2; rank = rank; seconds = t }
 
 -- the slice of a rank: stated 0 where timing is unstated, 1 with the slice
-abbrev pub ranked_answer : Ranked → RankedAnswer
-ranked_answer (ranked.Refused r) = record { refusal = r.number; place = r.place; stated = 0; slice = 0 }
-ranked_answer ranked.Unstated = record { refusal = 0; place = 0; stated = 0; slice = 0 }
-ranked_answer (ranked.At s) = record { refusal = 0; place = 0; stated = 1; slice = s }
+abbrev pub ranked_answer : Result (Option ℕ) Refusal → RankedAnswer
+ranked_answer (Err r) = record { refusal = number_of r.rule; place = r.place; stated = 0; slice = 0 }
+ranked_answer (Ok None) = record { refusal = 0; place = 0; stated = 0; slice = 0 }
+ranked_answer (Ok (Some s)) = record { refusal = 0; place = 0; stated = 1; slice = s }
 
 -- a position's three values
-abbrev pub position_answer : Positioned → PositionAnswer
-position_answer (position.At p) = record { refusal = 0; place = 0; x = p.x; y = p.y; z = p.z }
-position_answer (position.Refused r) = record { refusal = r.number; place = r.place; x = plus_zero; y = plus_zero; z = plus_zero }
+abbrev pub position_answer : Result Position Refusal → PositionAnswer
+position_answer (Ok p) = record { refusal = 0; place = 0; x = p.x; y = p.y; z = p.z }
+position_answer (Err r) = record { refusal = number_of r.rule; place = r.place; x = plus_zero; y = plus_zero; z = plus_zero }

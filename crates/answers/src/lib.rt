@@ -3,23 +3,20 @@
 // the crate vestumbral.
 #![tactic(auto)]
 
-ghost use Rattle.std.specs.Prelude.{◌≡◌};
+ghost use Rattle.std.specs.Prelude.{◌≡◌, Ok};
 ghost use Rattle.reader.specs.Reading.{reading_of};
 ghost use Rattle.outline.specs.Outline.{outline_of};
-ghost use Rattle.answers.specs.Answers.{refused_reply, voxel_reply, swap_reply, line_reply, edit_reply, big_endian};
-ghost use Rattle.answers.specs.Answers.{is_pair, is_aligned, refused_file, file_answer, refused_extension, extension_shown, slice_answer};
+ghost use Rattle.answers.specs.Answers.{refused_reply, voxel_reply, swap_reply, line_reply, edit_reply};
+ghost use Rattle.answers.specs.Answers.{refused_file, file_answer, refused_extension, extension_shown, slice_answer};
 ghost use Rattle.answers.specs.Answers.{ranked_answer, position_answer};
 
-use edit::Edited;
-use field::Order;
-use header::Kind;
-use line_copy::Lined;
-use outline::{Outline, Outlined};
-use position::Positioned;
-use refusal::{Refusal, Verdict};
-use slice_rank::Ranked;
+use affine::Position;
+use edit::NewFile;
+use field::Number;
+use outline::Outline;
+use refusal::{Refusal, Rule};
 use timing::Slice;
-use voxel::Located;
+use voxel::Extent;
 
 // The answer of voxel, swap, edit and line; `aligned` is said by an edit alone.
 #[repr(C)]
@@ -92,99 +89,79 @@ pub struct PositionAnswer {
     pub z: f32,
 }
 
-fn refused_reply(r: Refusal) -> Reply
-    ensures { result ≡ refused_reply r }
-{
-    Reply {
-        refusal: r.number,
-        place: r.place as u64,
-        length: 0,
-        aligned: 0,
+// Each answer of the library as its struct.
+impl From<Refusal> for Reply {
+    ghost from_gives = { λ r a. a ≡ refused_reply r };
+
+    fn from(r: Refusal) -> Reply {
+        Reply {
+            refusal: r.number(),
+            place: r.place as u64,
+            length: 0,
+            aligned: 0,
+        }
     }
 }
 
-pub fn refused_file(r: Refusal) -> FileAnswer
-    ensures { result ≡ refused_file r }
-{
-    FileAnswer {
-        refusal: r.number,
-        place: r.place as u64,
-        data_offset: 0,
-        data_bytes: 0,
-        big_endian: 0,
-        pair: 0,
-        dim: [0i16; 8],
-        datatype: 0,
-        bitpix: 0,
-        extensions: 0,
-        step: [0u64; 7],
-        aligned: 0,
+impl From<Refusal> for FileAnswer {
+    ghost from_gives = { λ r a. a ≡ refused_file r };
+
+    fn from(r: Refusal) -> FileAnswer {
+        FileAnswer {
+            refusal: r.number(),
+            place: r.place as u64,
+            data_offset: 0,
+            data_bytes: 0,
+            big_endian: 0,
+            pair: 0,
+            dim: [0i16; 8],
+            datatype: 0,
+            bitpix: 0,
+            extensions: 0,
+            step: [0u64; 7],
+            aligned: 0,
+        }
     }
 }
 
-pub fn big_endian(order: Order) -> u32
-    ensures { result ≡ big_endian order }
-{
-    match order {
-        Order::Little => 0,
-        Order::Big => 1,
-    }
-}
+impl From<Refusal> for ExtensionAnswer {
+    ghost from_gives = { λ r a. a ≡ refused_extension r };
 
-pub fn is_pair(kind: Kind) -> u32
-    ensures { result ≡ is_pair kind }
-{
-    match kind {
-        Kind::Single => 0,
-        Kind::Pair => 1,
+    fn from(r: Refusal) -> ExtensionAnswer {
+        ExtensionAnswer {
+            refusal: r.number(),
+            place: r.place as u64,
+            start: 0,
+            size: 0,
+            code: 0,
+        }
     }
-}
-
-pub fn is_aligned(aligned: bool) -> u32
-    ensures { result ≡ is_aligned aligned }
-{
-    if aligned { 1 } else { 0 }
 }
 
 // An accepted file: what its outline has, three fields beside it and the steps that they give, so that no record is made.
 pub fn shown_file(file: &[u8], outline: Outline) -> FileAnswer
-    requires { outline_of 0 file.now ≡ Outlined.Shown outline }
+    requires { outline_of 0 file.now ≡ Ok outline }
     ensures { result ≡ file_answer (reading_of file.now) }
 {
     let layout = outline.layout;
-    let order = layout.order;
-    let kind = layout.kind;
-    let image = layout.image;
     let count = outline.count as u32;
-    let dim = header::dims(file, order);
-    let bitpix = field::read_i16(file, 72, order);
+    let dim = header::dims(file, layout.order);
+    let bitpix = i16::read(file, 72, layout.order);
     let sizes = sizes::sizes_in(dim, bitpix);
     let step = sizes.steps;
     FileAnswer {
         refusal: 0,
         place: 0,
-        data_offset: image.offset,
-        data_bytes: image.bytes,
-        big_endian: big_endian(order),
-        pair: is_pair(kind),
+        data_offset: layout.image.offset,
+        data_bytes: layout.image.bytes,
+        big_endian: layout.order as u32,
+        pair: layout.kind as u32,
         dim,
-        datatype: field::read_i16(file, 70, order),
+        datatype: i16::read(file, 70, layout.order),
         bitpix,
         extensions: count,
         step,
-        aligned: is_aligned(layout.aligned),
-    }
-}
-
-pub fn refused_extension(r: Refusal) -> ExtensionAnswer
-    ensures { result ≡ refused_extension r }
-{
-    ExtensionAnswer {
-        refusal: r.number,
-        place: r.place as u64,
-        start: 0,
-        size: 0,
-        code: 0,
+        aligned: u32::from(layout.aligned),
     }
 }
 
@@ -193,10 +170,7 @@ pub fn shown_extension(outline: Outline, number: usize) -> ExtensionAnswer
     ensures { result ≡ extension_shown outline.count outline.span number }
 {
     if outline.count <= number {
-        return refused_extension(Refusal {
-            number: 18,
-            place: 0,
-        });
+        return Rule::NoSuchExtension.at(0).into();
     }
     let x = outline.span;
     ExtensionAnswer {
@@ -208,137 +182,149 @@ pub fn shown_extension(outline: Outline, number: usize) -> ExtensionAnswer
     }
 }
 
-pub fn voxel_reply(located: Located) -> Reply
-    ensures { result ≡ voxel_reply located }
-{
-    match located {
-        Located::At(e) => Reply {
+impl From<Result<Extent, Refusal>> for Reply {
+    ghost from_gives = { λ located a. a ≡ voxel_reply located };
+
+    fn from(located: Result<Extent, Refusal>) -> Reply {
+        match located {
+            Ok(extent) => Reply {
+                refusal: 0,
+                place: extent.place,
+                length: extent.length,
+                aligned: 0,
+            },
+            Err(r) => r.into(),
+        }
+    }
+}
+
+// A swap has no number of its own.
+impl From<Result<(), Refusal>> for Reply {
+    ghost from_gives = { λ swapped a. a ≡ swap_reply swapped };
+
+    fn from(swapped: Result<(), Refusal>) -> Reply {
+        match swapped {
+            Ok(()) => Reply {
+                refusal: 0,
+                place: 0,
+                length: 0,
+                aligned: 0,
+            },
+            Err(r) => r.into(),
+        }
+    }
+}
+
+// The bytes of a line.
+impl From<Result<usize, Refusal>> for Reply {
+    ghost from_gives = { λ copied a. a ≡ line_reply copied };
+
+    fn from(copied: Result<usize, Refusal>) -> Reply {
+        match copied {
+            Ok(length) => Reply {
+                refusal: 0,
+                place: 0,
+                length: length as u64,
+                aligned: 0,
+            },
+            Err(r) => r.into(),
+        }
+    }
+}
+
+impl From<Result<NewFile, Refusal>> for Reply {
+    ghost from_gives = { λ edited a. a ≡ edit_reply edited };
+
+    fn from(edited: Result<NewFile, Refusal>) -> Reply {
+        match edited {
+            Ok(file) => Reply {
+                refusal: 0,
+                place: 0,
+                length: file.length as u64,
+                aligned: u64::from(file.aligned),
+            },
+            Err(r) => r.into(),
+        }
+    }
+}
+
+impl From<Result<Slice, Refusal>> for SliceAnswer {
+    ghost from_gives = { λ slice a. a ≡ slice_answer slice };
+
+    fn from(slice: Result<Slice, Refusal>) -> SliceAnswer {
+        let unstated = SliceAnswer {
             refusal: 0,
-            place: e.place,
-            length: e.length,
-            aligned: 0,
-        },
-        Located::Unlocated(r) => refused_reply(r),
+            place: 0,
+            state: 0,
+            rank: 0,
+            seconds: 0.0,
+        };
+        match slice {
+            Ok(Slice::Unstated) => unstated,
+            Ok(Slice::Padding) => SliceAnswer {
+                state: 1,
+                ..unstated
+            },
+            Ok(Slice::Timed(rank, seconds)) => SliceAnswer {
+                state: 2,
+                rank: u32::from(rank),
+                seconds,
+                ..unstated
+            },
+            Err(r) => SliceAnswer {
+                refusal: r.number(),
+                place: r.place as u64,
+                ..unstated
+            },
+        }
     }
 }
 
-fn slice_state(refusal: Refusal, state: u32, rank: u32, seconds: f32) -> SliceAnswer
-    ensures { result ≡ record {
-      refusal = refusal.number;
-      place = refusal.place;
-      state = state;
-      rank = rank;
-      seconds = seconds;
-    } }
-{
-    SliceAnswer {
-        refusal: refusal.number,
-        place: refusal.place as u64,
-        state,
-        rank,
-        seconds,
-    }
-}
+impl From<Result<Option<u16>, Refusal>> for RankedAnswer {
+    ghost from_gives = { λ ranked a. a ≡ ranked_answer ranked };
 
-pub fn slice_answer(slice: Slice) -> SliceAnswer
-    ensures { result ≡ slice_answer slice }
-{
-    let done = Refusal {
-        number: 0,
-        place: 0,
-    };
-    match slice {
-        Slice::Refused(r) => slice_state(r, 0, 0, 0.0),
-        Slice::Unstated => slice_state(done, 0, 0, 0.0),
-        Slice::Padding => slice_state(done, 1, 0, 0.0),
-        Slice::Timed(rank, seconds) => slice_state(done, 2, rank as u32, seconds),
-    }
-}
-
-pub fn ranked_answer(ranked: Ranked) -> RankedAnswer
-    ensures { result ≡ ranked_answer ranked }
-{
-    match ranked {
-        Ranked::Refused(r) => RankedAnswer {
-            refusal: r.number,
-            place: r.place as u64,
-            stated: 0,
-            slice: 0,
-        },
-        Ranked::Unstated => RankedAnswer {
+    fn from(ranked: Result<Option<u16>, Refusal>) -> RankedAnswer {
+        let unstated = RankedAnswer {
             refusal: 0,
             place: 0,
             stated: 0,
             slice: 0,
-        },
-        Ranked::At(slice) => RankedAnswer {
-            refusal: 0,
-            place: 0,
-            stated: 1,
-            slice: slice as u32,
-        },
+        };
+        match ranked {
+            Ok(None) => unstated,
+            Ok(Some(slice)) => RankedAnswer {
+                stated: 1,
+                slice: u32::from(slice),
+                ..unstated
+            },
+            Err(r) => RankedAnswer {
+                refusal: r.number(),
+                place: r.place as u64,
+                ..unstated
+            },
+        }
     }
 }
 
-pub fn position_answer(positioned: Positioned) -> PositionAnswer
-    ensures { result ≡ position_answer positioned }
-{
-    match positioned {
-        Positioned::At(p) => PositionAnswer {
-            refusal: 0,
-            place: 0,
-            x: p.x,
-            y: p.y,
-            z: p.z,
-        },
-        Positioned::Refused(r) => PositionAnswer {
-            refusal: r.number,
-            place: r.place as u64,
-            x: 0.0,
-            y: 0.0,
-            z: 0.0,
-        },
-    }
-}
+impl From<Result<Position, Refusal>> for PositionAnswer {
+    ghost from_gives = { λ position a. a ≡ position_answer position };
 
-pub fn swap_reply(verdict: Verdict) -> Reply
-    ensures { result ≡ swap_reply verdict }
-{
-    match verdict {
-        Verdict::Accepted => Reply {
-            refusal: 0,
-            place: 0,
-            length: 0,
-            aligned: 0,
-        },
-        Verdict::Refused(r) => refused_reply(r),
-    }
-}
-
-pub fn line_reply(lined: Lined) -> Reply
-    ensures { result ≡ line_reply lined }
-{
-    match lined {
-        Lined::Copied(length) => Reply {
-            refusal: 0,
-            place: 0,
-            length: length as u64,
-            aligned: 0,
-        },
-        Lined::Refused(r) => refused_reply(r),
-    }
-}
-
-pub fn edit_reply(edited: Edited) -> Reply
-    ensures { result ≡ edit_reply edited }
-{
-    match edited {
-        Edited::Done(file) => Reply {
-            refusal: 0,
-            place: 0,
-            length: file.length as u64,
-            aligned: is_aligned(file.aligned) as u64,
-        },
-        Edited::Denied(r) => refused_reply(r),
+    fn from(position: Result<Position, Refusal>) -> PositionAnswer {
+        match position {
+            Ok(p) => PositionAnswer {
+                refusal: 0,
+                place: 0,
+                x: p.x,
+                y: p.y,
+                z: p.z,
+            },
+            Err(r) => PositionAnswer {
+                refusal: r.number(),
+                place: r.place as u64,
+                x: 0.0,
+                y: 0.0,
+                z: 0.0,
+            },
+        }
     }
 }

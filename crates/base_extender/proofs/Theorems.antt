@@ -1,5 +1,7 @@
 -- A file that was accepted under the base's rules is accepted with the same record, and every edit of it gives the same bytes as before.
 -- A file that the base refused by another number than 12 is refused as before.
+use Rattle.refusal.specs.declared.Rule.TheVariants.{FileCut, ExtenderCut, NoSuchExtension, NegativeCodeOffered, PrivateBytes, ListTooLong, ShortBuffer, LengthAboveBuffer}
+use Rattle.std.specs.Prelude.{Ok, Err}
 use Prim.Native.Nat.{ℕ}
 use mathlib.Core.Path.{◌≡◌, refl, sym, ap, ◌∙◌}
 use mathlib.Core.Bool.{Bool, true, false, not, cond, ◌&&◌, ◌||◌, or-false, or-true, true≢false}
@@ -9,9 +11,7 @@ use lib.IntN.{ℤ}
 use lib.ListN.{length, take, drop}
 use Rattle.field.specs.Numbers.{joined}
 use Rattle.refusal.specs.declared.Refusal.{Refusal}
-use Rattle.refusal.specs.declared.Verdict.{Verdict}
-use Rattle.refusal.specs.declared.Verdict.TheVariants.{Accepted, Refused}
-use Rattle.refusal.specs.Table.{Row, row, verdict, decided, then}
+use Rattle.refusal.specs.Table.{Row, row, verdict, decided, then, Verdict, number_of, no_refusal}
 use Rattle.refusal.proofs.Rows.{Clear, none, one, accepted_clear, clear_split, verdict-append, refused_never}
 use Rattle.extension.specs.Walk.{first_place, Walked, listed, stopped, extensions_in, rest_of}
 use Rattle.extension.specs.Pieces.{pieces}
@@ -67,8 +67,8 @@ module _ (f : List ℕ) (e : base_extender f ≡ true) where
   rows_same =
       let cut = cut_extender (kind_of f) (length f) in
       let twelve : (cut || not (base_extender f)) ≡ cut = ap (λ (t : Bool). cut || not t) e ∙ or-false cut in
-      let eleven = row 11 (cut_short (kind_of f) (length f) (image_of (shape_of f))) 108 in
-      λ i. head_rows f (length f) ++ (field_rows (shape_of f) (length f) ++ (eleven ∷ row 12 (twelve i) 348 ∷ []))
+      let eleven = row FileCut (cut_short (kind_of f) (length f) (image_of (shape_of f))) 108 in
+      λ i. head_rows f (length f) ++ (field_rows (shape_of f) (length f) ++ (eleven ∷ row ExtenderCut (twelve i) 348 ∷ []))
 
   judged_same : base_judgement f ≡ judgement f
   unfolding judgement end_of
@@ -109,11 +109,11 @@ module _ (f : List ℕ) (e : base_extender f ≡ true) where
     verdict_same room =
         λ i. then (reads_same i).verdict
         (verdict
-        (row 18 (missing_in change (length (list_same i))) 0
-        ∷ row 19 (offers_negative change code) 0
-        ∷ row 20 (private_same i) 0
-        ∷ row 21 (too_much (edited_same i)) 0
-        ∷ row 22 (ltb room (length (fresh_same i))) 0
+        (row NoSuchExtension (missing_in change (length (list_same i))) 0
+        ∷ row NegativeCodeOffered (offers_negative change code) 0
+        ∷ row PrivateBytes (private_same i) 0
+        ∷ row ListTooLong (too_much (edited_same i)) 0
+        ∷ row ShortBuffer (ltb room (length (fresh_same i))) 0
         ∷ []))
 
 -- ---- What the base's verdict tells of the extender
@@ -124,86 +124,86 @@ twelve_clear f c =
     let a = clear_split (head_rows f (length f)) c in
     last (clear_split (field_rows (shape_of f) (length f)) a.1).1
   where
-    last : {r : Row} → Clear (r ∷ row 12 (cut_extender (kind_of f) (length f) || not (base_extender f)) 348 ∷ []) → base_extender f ≡ true
+    last : {r : Row} → Clear (r ∷ row ExtenderCut (cut_extender (kind_of f) (length f) || not (base_extender f)) 348 ∷ []) → base_extender f ≡ true
     last (one r11 (one r12 none)) = not-false (base_extender f) (neither (cut_extender (kind_of f) (length f)) (not (base_extender f)) r12).1
 
-accepted_extender : (f : List ℕ) → (base_reading f).verdict ≡ Accepted → base_extender f ≡ true
+accepted_extender : (f : List ℕ) → (base_reading f).verdict ≡ no_refusal → base_extender f ≡ true
 unfolding base_reading
 accepted_extender f a = by (verdict (base_rows f)) refl a
   where
-    by : (v : Verdict) → verdict (base_rows f) ≡ v → (reading_by f (decided v (base_walk f) stopped)).verdict ≡ Accepted → base_extender f ≡ true
-    by Accepted q d = twelve_clear f (accepted_clear (base_rows f) q)
-    by (Refused r) q d = refused_never d
+    by : (v : Verdict) → verdict (base_rows f) ≡ v → (reading_by f (decided v (base_walk f) stopped)).verdict ≡ no_refusal → base_extender f ≡ true
+    by (Ok tt) q d = twelve_clear f (accepted_clear (base_rows f) q)
+    by (Err r) q d = refused_never d
 
 -- ---- The theorems
 
 -- "a file that was accepted under the base rules is accepted with the same record"
-pub base_reads : (f : List ℕ) → (base_reading f).verdict ≡ Accepted → reading_of f ≡ base_reading f
+pub base_reads : (f : List ℕ) → (base_reading f).verdict ≡ no_refusal → reading_of f ≡ base_reading f
 base_reads f a = sym (reads_same f (accepted_extender f a))
 
 -- "and every edit of it gives the same bytes as before": the same outcome, which is a fresh file or a refusal
-pub base_edits : (l : List ℕ) (len : ℕ) (change : Change) (code : ℤ) (p : List ℕ) → (base_reading (take len l)).verdict ≡ Accepted
+pub base_edits : (l : List ℕ) (len : ℕ) (change : Change) (code : ℤ) (p : List ℕ) → (base_reading (take len l)).verdict ≡ no_refusal
     → outcome_of l len change code p ≡ base_outcome l len change code p
 unfolding outcome_of base_outcome
 base_edits l len change code p a =
     let f = take len l in
     let e = accepted_extender f a in
-    λ i. decided (then (verdict (row 24 (ltb (length l) len) 0 ∷ [])) (sym (verdict_same f e change code p (length l)) i))
+    λ i. decided (then (verdict (row LengthAboveBuffer (ltb (length l) len) 0 ∷ [])) (sym (verdict_same f e change code p (length l)) i))
     (fresh (sym (fresh_same f e change code p) i)) refused
 
 -- ---- What else stays
 
 -- tables that begin alike refuse alike
-then_alike : (a v w : Verdict) (r : Refusal) → (v ≡ Refused r → w ≡ Refused r) → then a v ≡ Refused r → then a w ≡ Refused r
-then_alike Accepted v w r h e = h e
-then_alike (Refused q) v w r h e = e
+then_alike : (a v w : Verdict) (r : Refusal) → (v ≡ Err r → w ≡ Err r) → then a v ≡ Err r → then a w ≡ Err r
+then_alike (Ok tt) v w r h e = h e
+then_alike (Err q) v w r h e = e
 
-begin_alike : (rs qs ps : List Row) (r : Refusal) → (verdict qs ≡ Refused r → verdict ps ≡ Refused r) → verdict (rs ++ qs) ≡ Refused r
-    → verdict (rs ++ ps) ≡ Refused r
+begin_alike : (rs qs ps : List Row) (r : Refusal) → (verdict qs ≡ Err r → verdict ps ≡ Err r) → verdict (rs ++ qs) ≡ Err r
+    → verdict (rs ++ ps) ≡ Err r
 begin_alike rs qs ps r h e =
     verdict-append rs ps ∙ then_alike (verdict rs) (verdict qs) (verdict ps) r h (sym (verdict-append rs qs) ∙ e)
 
-module _ (f : List ℕ) (r : Refusal) (other : r.number ≡ 12 → ⊥) where
+module _ (f : List ℕ) (r : Refusal) (other : number_of r.rule ≡ 12 → ⊥) where
   -- rule 12's row by a test
   abbrev twelve : Bool → List Row
-  twelve test = row 12 test 348 ∷ []
+  twelve test = row ExtenderCut test 348 ∷ []
 
   abbrev cut : Bool
   cut = cut_extender (kind_of f) (length f)
 
   abbrev eleven : List Row
-  eleven = row 11 (cut_short (kind_of f) (length f) (image_of (shape_of f))) 108 ∷ []
+  eleven = row FileCut (cut_short (kind_of f) (length f) (image_of (shape_of f))) 108 ∷ []
 
   abbrev fields : List Row
   fields = field_rows (shape_of f) (length f)
 
-  never_twelve : verdict (twelve true) ≡ Refused r → verdict (twelve cut) ≡ Refused r
+  never_twelve : verdict (twelve true) ≡ Err r → verdict (twelve cut) ≡ Err r
   unfolding verdict
-  never_twelve e = let n : r.number ≡ 12 = cc in absurd (other n)
+  never_twelve e = let n : number_of r.rule ≡ 12 = cc in absurd (other n)
 
   -- where the base's 12 holds, another number stood before it
-  rows_keep : base_extender f ≡ false → verdict (base_rows f) ≡ Refused r → verdict (file_rows f) ≡ Refused r
+  rows_keep : base_extender f ≡ false → verdict (base_rows f) ≡ Err r → verdict (file_rows f) ≡ Err r
   rows_keep e d =
       let t : (cut || not (base_extender f)) ≡ true = ap (λ (b : Bool). cut || not b) e ∙ or-true cut in
-      let h : verdict (head_rows f (length f) ++ (fields ++ (eleven ++ twelve true))) ≡ Refused r =
+      let h : verdict (head_rows f (length f) ++ (fields ++ (eleven ++ twelve true))) ≡ Err r =
       sym (ap (λ (b : Bool). verdict (head_rows f (length f) ++ (fields ++ (eleven ++ twelve b)))) t) ∙ d in
       begin_alike (head_rows f (length f)) (fields ++ (eleven ++ twelve true)) (fields ++ (eleven ++ twelve cut)) r
       (begin_alike fields (eleven ++ twelve true) (eleven ++ twelve cut) r (begin_alike eleven (twelve true) (twelve cut) r never_twelve)) h
 
-  refused_rows : base_extender f ≡ false → (base_reading f).verdict ≡ Refused r → verdict (base_rows f) ≡ Refused r
+  refused_rows : base_extender f ≡ false → (base_reading f).verdict ≡ Err r → verdict (base_rows f) ≡ Err r
   unfolding base_reading
   refused_rows e d = by (verdict (base_rows f)) refl d
     where
-      by : (v : Verdict) → verdict (base_rows f) ≡ v → (reading_by f (decided v (base_walk f) stopped)).verdict ≡ Refused r
-          → verdict (base_rows f) ≡ Refused r
-      by Accepted q g = absurd (true≢false (sym (twelve_clear f (accepted_clear (base_rows f) q)) ∙ e))
-      by (Refused p) q g = q ∙ g
+      by : (v : Verdict) → verdict (base_rows f) ≡ v → (reading_by f (decided v (base_walk f) stopped)).verdict ≡ Err r
+          → verdict (base_rows f) ≡ Err r
+      by (Ok tt) q g = absurd (true≢false (sym (twelve_clear f (accepted_clear (base_rows f) q)) ∙ e))
+      by (Err p) q g = q ∙ g
 
   -- a file that the base refused by another number than 12 is refused as before
-  pub base_refuses : (base_reading f).verdict ≡ Refused r → (reading_of f).verdict ≡ Refused r
+  pub base_refuses : (base_reading f).verdict ≡ Err r → (reading_of f).verdict ≡ Err r
   unfolding reading_of judgement
   base_refuses d = by (base_extender f) refl
     where
-      by : (t : Bool) → base_extender f ≡ t → (reading_of f).verdict ≡ Refused r
+      by : (t : Bool) → base_extender f ≡ t → (reading_of f).verdict ≡ Err r
       by true e = ap (λ (x : Reading). x.verdict) (sym (reads_same f e)) ∙ d
       by false e = rw (rows_keep e (refused_rows e d))

@@ -1,10 +1,10 @@
 -- The reading of a file and its edits by the base's rules of the extender, as they were before P2 (01-scope.md, "Refusal numbers" and
 -- "Extensions"): 12 refuses every extender but 0,0,0,0 and 1,0,0,0, only 1,0,0,0 says that there are extensions, and an edit writes all
 -- four bytes. All else is the library's own. f is the old file everywhere.
+use Rattle.refusal.specs.declared.Rule.TheVariants.{FileCut, ExtenderCut, NoSuchExtension, NegativeCodeOffered, PrivateBytes, ListTooLong, ShortBuffer, LengthAboveBuffer}
 use Rattle.std.specs.Prelude.{ℕ, Bool, false, not, cond, ◌&&◌, ◌||◌, List, [], ◌∷◌, ◌++◌, ltb, ℤ, length, take}
 use Rattle.field.specs.Numbers.{joined}
-use Rattle.refusal.specs.declared.Verdict.{Verdict}
-use Rattle.refusal.specs.Table.{Row, row, verdict, decided, then}
+use Rattle.refusal.specs.Table.{Row, row, verdict, decided, then, Verdict}
 use Rattle.extension.specs.Walk.{first_place, Walked, listed, stopped, extensions_in, rest_of}
 use Rattle.extension.specs.Pieces.{pieces}
 use Rattle.rules.specs.Rules.{field_rows, image_of, cut_short}
@@ -29,8 +29,8 @@ abbrev pub base_rows : List ℕ → List Row
 base_rows f =
     head_rows f (length f)
     ++ (field_rows (shape_of f) (length f)
-    ++ (row 11 (cut_short (kind_of f) (length f) (image_of (shape_of f))) 108
-    ∷ row 12 (cut_extender (kind_of f) (length f) || not (base_extender f)) 348
+    ++ (row FileCut (cut_short (kind_of f) (length f) (image_of (shape_of f))) 108
+    ∷ row ExtenderCut (cut_extender (kind_of f) (length f) || not (base_extender f)) 348
     ∷ []))
 
 -- "With a zero extender there are no extensions"
@@ -76,15 +76,15 @@ abbrev pub base_verdict : List ℕ → ℕ → Change → ℤ → List ℕ → V
 base_verdict f room change code p =
     then (base_reading f).verdict
     (verdict
-    (row 18 (missing_in change (length (base_list f))) 0
-    ∷ row 19 (offers_negative change code) 0
-    ∷ row 20 (base_private change f) 0
-    ∷ row 21 (too_much (base_edited f change code p)) 0
-    ∷ row 22 (ltb room (length (base_fresh f change code p))) 0
+    (row NoSuchExtension (missing_in change (length (base_list f))) 0
+    ∷ row NegativeCodeOffered (offers_negative change code) 0
+    ∷ row PrivateBytes (base_private change f) 0
+    ∷ row ListTooLong (too_much (base_edited f change code p)) 0
+    ∷ row ShortBuffer (ltb room (length (base_fresh f change code p))) 0
     ∷ []))
 
 -- an edit of the file in the first len bytes of the buffer l, 24 first
 unfoldable pub base_outcome : List ℕ → ℕ → Change → ℤ → List ℕ → Outcome
 base_outcome l len change code p =
-    decided (then (verdict (row 24 (ltb (length l) len) 0 ∷ [])) (base_verdict (take len l) (length l) change code p))
+    decided (then (verdict (row LengthAboveBuffer (ltb (length l) len) 0 ∷ [])) (base_verdict (take len l) (length l) change code p))
     (fresh (base_fresh (take len l) change code p)) refused

@@ -6,8 +6,14 @@ use native.Mathlib.Numerals.{add-one}
 use native.Mathlib.Omega.{arith}
 use lib.ListN.{length, set, take, drop, length-take, length-drop}
 use lib.Seq.{set_split, take-add, drop-drop}
+use borrow.Rule.Slice.PartMut.{put_mid}
 use Rattle.buffer.specs.Put.{put}
 use Rattle.buffer.proofs.Laws.{length-put, take-drop-put, part_put, drop-put, put_right, put_left}
+
+-- a part written whole
+pub put_mid-put : (l e b : List ℕ) (at k : ℕ) → b ≡ e → k ≡ length e → put_mid at k l b ≡ put l at e
+unfolding put
+put_mid-put l e b at k eb ek = rw (eb, ek, ← drop-drop)
 
 -- a store is a write of one byte
 pub set-put : (l : List ℕ) (i v : ℕ) → i < length l → set l i v ≡ put l i (v ∷ [])

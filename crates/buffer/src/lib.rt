@@ -6,27 +6,17 @@
 ghost use Rattle.std.specs.Prelude.{◌≡◌, ◌++◌, ◌+◌, ◌-◌, ◌≤◌, length, take, drop, replicate};
 ghost use Rattle.buffer.specs.Put.{put};
 
-use refusal::Refusal;
-
-// What a call that fills the front of a lent buffer answers: the bytes written, or the refusal (specs/Fill.antt).
-#[derive(Clone, Copy)]
-pub enum Filled {
-    Written(usize),
-    Refused(Refusal),
-}
-
 // How many bytes a slide moves at a time; `slide_block` requires at most as many.
 const BLOCK: usize = 16384;
 
-// The bytes of src into buf from `at`.
+// The bytes of src into buf from `at`. A loop, of which the compiler makes better code for a short constant length than of
+// the library's copy.
 pub fn copy_in(buf: &mut [u8], at: usize, src: &[u8])
     requires { at + length src.now ≤ length buf.old }
     ensures { buf.new ≡ put buf.old at src.now }
 {
-    let mut j: usize = 0;
-    while j < src.len() {
+    for j in 0..src.len() {
         buf[at + j] = src[j];
-        j += 1;
     }
 }
 
@@ -35,11 +25,7 @@ pub fn clear(buf: &mut [u8], at: usize, n: usize)
     requires { at + n ≤ length buf.old }
     ensures { buf.new ≡ put buf.old at (replicate n 0) }
 {
-    let mut j: usize = 0;
-    while j < n {
-        buf[at + j] = 0;
-        j += 1;
-    }
+    buf[at..at + n].fill(0);
 }
 
 // At most a block of n bytes from `from` to `to`, whether or not the two places overlap. The bytes go by way of a local
@@ -49,9 +35,8 @@ fn slide_block(buf: &mut [u8], from: usize, to: usize, n: usize)
     ensures { buf.new ≡ put buf.old to (take n (drop from buf.old)) }
 {
     let mut block = [0u8; BLOCK];
-    let end = from + n;
-    copy_in(&mut block, 0, &buf[from..end]);
-    copy_in(buf, to, &block[0..n]);
+    copy_in(&mut block, 0, &buf[from..from + n]);
+    copy_in(buf, to, &block[..n]);
 }
 
 // The n bytes from `from` to a place `to` above it, the last block first, so that no byte is written over before it has
@@ -62,7 +47,7 @@ fn slide_up(buf: &mut [u8], from: usize, to: usize, n: usize)
 {
     let mut left = n;
     while BLOCK <= left {
-        left = left - BLOCK;
+        left -= BLOCK;
         slide_block(buf, from + left, to + left, BLOCK);
     }
     slide_block(buf, from, to, left);
@@ -78,9 +63,9 @@ fn slide_down(buf: &mut [u8], from: usize, to: usize, n: usize)
     let mut left = n;
     while BLOCK <= left {
         slide_block(buf, source, target, BLOCK);
-        source = source + BLOCK;
-        target = target + BLOCK;
-        left = left - BLOCK;
+        source += BLOCK;
+        target += BLOCK;
+        left -= BLOCK;
     }
     slide_block(buf, source, target, left);
 }

@@ -1,75 +1,101 @@
--- What the outline of an accepted file says of a voxel: the fields that it is located by are its record's.
-use Prim.Native.Nat.{ℕ, ◌≤◌}
-use mathlib.Core.Path.{◌≡◌, ap, sym, ◌∙◌}
-use mathlib.Core.Bool.{true, false}
+-- What the outline of an accepted file says of a voxel: what it is located by is what its record keeps.
+use Rattle.std.specs.Prelude.{Ok, Err}
+use Prim.Native.Nat.{ℕ, ◌+◌, ◌≤◌}
+use mathlib.Core.Path.{◌≡◌, ap, sym, subst, ◌∙◌}
 use mathlib.Core.List.{List}
-use Rattle.refusal.specs.Table.{refusal}
-use Rattle.offset.specs.Offset.{offset_limit}
+use mathlib.Core.Bool.{true, false}
 use Rattle.grid.specs.Grid.{within}
-use Rattle.grid.specs.Axes.{image_limit}
-use Rattle.grid.specs.Sizes.{sizes_by, bytes_before}
-use Rattle.header.specs.declared.Header.{Header}
+use Rattle.grid.specs.Axes.{seven_axes}
+use lib.ListN.{length, take, drop}
+use Rattle.refusal.specs.declared.Refusal.{Refusal}
+use Rattle.refusal.proofs.Rows.{Clear, one, decided_accepted, decided-refused}
+use Rattle.grid.specs.Sizes.{sizes_by}
 use Rattle.header.specs.Fields.{header_of}
 use Rattle.rules.specs.declared.Shape.{Shape}
-use Rattle.rules.specs.declared.Image.{Image}
-use Rattle.rules.specs.Rules.{axis_count, image_of, shape_of_record, image_cut}
-use Rattle.rules.proofs.Passed.{fields_offset}
+use Rattle.rules.specs.Rules.{axis_count, image_of, shape_rows, shape_of_record, offset_outside, holder}
+use Rattle.rules.proofs.Sizes.{shape_measured, measured_sizes}
 use Rattle.layout.specs.declared.Layout.{Layout}
 use Rattle.layout.specs.File.{shape_in}
-use Rattle.reader.specs.Reading.{reading_of}
+use Rattle.reader.specs.Reading.{reading_of, IsAccepted}
+use Rattle.reader.proofs.File.{accepted_record, accepted_sizes}
 use Rattle.outline.specs.declared.Outline.{Outline}
-use Rattle.outline.specs.declared.Outlined.TheVariants.{Shown}
 use Rattle.outline.specs.Outline.{outline_of}
-use Rattle.outline.proofs.Outlines.{shows, shown_rows, shown_header}
-use Rattle.voxel.specs.declared.Located.TheVariants.{At, Unlocated}
-use Rattle.voxel.specs.Voxel.{lengths_in, bytes_in, located_by, located_in}
+use Rattle.outline.proofs.Outlines.{shows, shown_header, shown_accepted, hidden_answer}
+use Rattle.voxel.specs.Voxel.{bytes_in}
 use Rattle.voxel.specs.declared.Volume.{Volume}
-use Rattle.voxel.specs.Steps.{extent_by}
-use Rattle.voxel.proofs.Sized.{volume_with, passed_fields, located_16, located_17, located_at, located_small}
+use Rattle.voxel.specs.Steps.{no_axes, strays, volume_of, stepped_by}
+use Rattle.voxel.proofs.Stepping.{in_stepped}
+use Rattle.voxel.proofs.Sized.{volume_with, passed_fields, inside_kept}
+use Rattle.by_file.specs.Files.{volume_in, located_of, voxel_of}
+use Rattle.by_file.proofs.Steps.{accepted_stepped}
+use Rattle.by_file.proofs.Voxels.{voxel_in_file, voxel_bytes_are}
+use Rattle.voxel.specs.declared.Extent.{Extent}
 
--- the fields that an accepted file shows are its record's
-module _ (s : List ℕ) (o : Outline) (e : outline_of 0 s ≡ Shown o) where
-  pub shown_kind : o.layout.kind ≡ (reading_of s).header.kind
-  unfolding header_of
-  shown_kind = ap (λ (h : Header). h.kind) (shown_header s 0 o e)
+-- a record's sizes are those that its fields give
+pub volume_is : (s : List ℕ) → IsAccepted s → let f = shape_of_record (reading_of s).header in
+    volume_with f (sizes_by f.dim (axis_count f.dim) (bytes_in f)) ≡ volume_of (reading_of s).header
+volume_is s a =
+    let f = shape_of_record (reading_of s).header in
+    ap (volume_with f) (measured_sizes f (shape_measured f (accepted_record s a)) ∙ sym (accepted_sizes s a))
 
-  pub shown_shape : shape_in o.layout.order o.layout.kind s ≡ shape_of_record (reading_of s).header
-  unfolding shape_in header_of
-  shown_shape = ap shape_of_record (shown_header s 0 o e)
-
+module _ (s : List ℕ) (o : Outline) (e : outline_of 0 s ≡ Ok o) where
   abbrev pub fields : Shape
   fields = shape_in o.layout.order o.layout.kind s
 
-  -- with their sizes
-  abbrev pub volume : Volume
-  volume = volume_with fields (sizes_by fields.dim (axis_count fields.dim) (bytes_in fields))
+  shown_shape : fields ≡ shape_of_record (reading_of s).header
+  unfolding shape_in header_of
+  shown_shape = ap shape_of_record (shown_header s 0 o e)
 
   pub shown_image : image_of fields ≡ o.layout.image
   shown_image =
       ap (λ (l : Layout). image_of (shape_in l.order l.kind s)) (sym (shows s 0 o e).layout)
       ∙ ap (λ (l : Layout). l.image) (shows s 0 o e).layout
 
-  -- and what their sizes give is what it gives, rule by rule
-  module _ (len : ℕ) (index : List ℕ) where
-    same : located_by fields len index ≡ located_in (reading_of s).header len index
-    same = ap (λ (f : Shape). located_by f len index) shown_shape
+  pub shown_volume : volume_with fields (sizes_by fields.dim (axis_count fields.dim) (bytes_in fields)) ≡ volume_of (reading_of s).header
+  shown_volume =
+      ap (λ (f : Shape). volume_with f (sizes_by f.dim (axis_count f.dim) (bytes_in f))) shown_shape
+      ∙ volume_is s (shown_accepted s 0 o e)
 
-    cut_is : image_cut fields.kind len (image_of fields) ≡ image_cut o.layout.kind len o.layout.image
-    unfolding shape_in
-    cut_is = ap (λ (i : Image). image_cut o.layout.kind len i) shown_image
+pub hidden_volume : (s : List ℕ) (r : Refusal) → outline_of 0 s ≡ Err r → volume_in s ≡ Err r
+hidden_volume s r e = sym (hidden_answer s 0 _ Err r e)
 
-    pub shown_16 : image_cut o.layout.kind len o.layout.image ≡ true → Unlocated (refusal 16 0) ≡ located_in (reading_of s).header len index
-    shown_16 cut = located_16 fields (shown_rows s 0 o e) len index (cut_is ∙ cut) ∙ same
+two_passed : (f : Shape) → Clear (shape_rows f) → no_axes f.dim ≡ false
+two_passed f (one two rest) = two
 
-    module _ (whole : image_cut o.layout.kind len o.layout.image ≡ false) where
-      pub shown_17 : within (lengths_in fields) index ≡ false → Unlocated (refusal 17 0) ≡ located_in (reading_of s).header len index
-      shown_17 out = located_17 fields (shown_rows s 0 o e) len index (cut_is ∙ whole) out ∙ same
+-- by what a file answers, a voxel is located as the file's
+module _ (s image index : List ℕ) where
+  pub volume_answered : (v : Volume) → volume_in s ≡ Ok v → IsAccepted s × (volume_of (reading_of s).header ≡ v)
+  volume_answered v e =
+      let p = decided_accepted (reading_of s).verdict (λ r d. absurd cc) e in
+      (p.0, cc)
 
-      pub shown_at : within (lengths_in fields) index ≡ true → At (extent_by volume index) ≡ located_in (reading_of s).header len index
-      shown_at inside = located_at fields (shown_rows s 0 o e) len index (cut_is ∙ whole) inside ∙ same
+  -- and the rules but 16 and 17 pass
+  pub passes : (v : Volume) → volume_in s ≡ Ok v → (no_axes v.dim ≡ false) × (offset_outside v.kind v.offset 0 ≡ false)
+      × (within (seven_axes v.dim (axis_count v.dim)) index ≡ true → strays v index ≡ false)
+  passes v e =
+      let p = volume_answered v e in
+      let f = shape_of_record (reading_of s).header in
+      let c = accepted_record s p.0 in
+      let kept : within (seven_axes f.dim (axis_count f.dim)) index ≡ true → strays (volume_of (reading_of s).header) index ≡ false =
+      λ w. subst (λ (u : Volume). strays u index ≡ false) (volume_is s p.0) (inside_kept f c (length image) index w) in
+      rw (← p.1) (two_passed f c, (passed_fields f c).inside, kept)
 
-    pub shown_small : within (lengths_in fields) index ≡ true → bytes_before volume.sizes.steps index ≤ image_limit
-    shown_small inside = located_small fields (shown_rows s 0 o e) len index inside
+  pub located_is : (v : Volume) → volume_in s ≡ Ok v → stepped_by v (length image) index ≡ located_of s image index
+  unfolding located_of
+  located_is v e =
+      let p = volume_answered v e in
+      let whole = (passed_fields (shape_of_record (reading_of s).header) (accepted_record s p.0)).whole in
+      rw (← p.1, p.0) (in_stepped (reading_of s).header (length image) index whole ∙ accepted_stepped s p.0 (length image) index)
 
-  pub shown_low : o.layout.image.offset ≤ offset_limit
-  shown_low = rw (← shown_image) (fields_offset fields 0 (passed_fields fields (shown_rows s 0 o e)))
+  pub unlocated : (r : Refusal) → volume_in s ≡ Err r → Err r ≡ located_of s image index
+  unfolding located_of
+  unlocated r e =
+      let p = decided-refused (reading_of s).verdict (λ d. absurd cc) e in
+      rw p.1 (ap Err (sym cc))
+
+  -- and its bytes are in the file that holds the image
+  pub part_is : (v : Volume) → volume_in s ≡ Ok v → (e : Extent) → stepped_by v (length image) index ≡ Ok e
+      → (e.place + e.length ≤ length (holder v.kind s image)) × (voxel_of s image index ≡ take e.length (drop e.place (holder v.kind s image)))
+  part_is v a e d =
+      let at = sym (located_is v a) ∙ d in
+      rw (← ap (λ (w : Volume). w.kind) (volume_answered v a).1) (voxel_in_file s image index e at, voxel_bytes_are s image index e at)

@@ -1,4 +1,6 @@
 -- What holds of every voxel of every file, over the definitions that the contracts cite (01-scope.md, "Voxels and byte order").
+use Rattle.refusal.specs.declared.Rule.TheVariants.{IndexOutside}
+use Rattle.std.specs.Prelude.{Ok, Err, Result}
 use Prim.Native.Nat.{ℕ, ◌+◌, ◌≤◌, ◌<◌}
 use mathlib.Core.Path.{◌≡◌, refl, ap, sym, subst, ◌∙◌}
 use mathlib.Core.Logic.{◌↔◌}
@@ -10,8 +12,7 @@ use lib.IntN.{ℤ}
 use lib.ListN.{length, get_or, take, drop, length-take, length-drop}
 use Rattle.field.specs.Numbers.{i16s_at}
 use Rattle.refusal.specs.declared.Refusal.{Refusal}
-use Rattle.refusal.specs.declared.Verdict.TheVariants.{Accepted}
-use Rattle.refusal.specs.Table.{row, verdict, decided}
+use Rattle.refusal.specs.Table.{row, verdict, decided, number_of, no_refusal}
 use Rattle.refusal.proofs.Rows.{none, one, clear_accepted, decided_accepted, between, between_wider}
 use Rattle.grid.specs.Grid.{within}
 use Rattle.grid.specs.Axes.{seven_axes}
@@ -28,8 +29,6 @@ use Rattle.reader.specs.Reading.{reading_of, IsAccepted}
 use Rattle.reader.proofs.File.{accepted_shape, accepted_record, record_image, record_whole}
 use Rattle.reader.proofs.Theorems.{answered_number}
 use Rattle.voxel.specs.declared.Extent.{Extent}
-use Rattle.voxel.specs.declared.Located.{Located}
-use Rattle.voxel.specs.declared.Located.TheVariants.{At, Unlocated}
 use Rattle.voxel.specs.Voxel.{lengths_of, voxel_bytes, image_rows, voxel_rows, extent_of, located_by, located_in}
 use Rattle.rules.proofs.Sizes.{shape_measured}
 use Rattle.voxel.proofs.Sized.{shape_some}
@@ -41,13 +40,13 @@ use Rattle.by_file.proofs.Indexes.{index_seven}
 -- Of an accepted file 16 and 17 alone are still to be given.
 pub accepted_located : (file image index : List ℕ) → IsAccepted file
     → located_of file image index
-    ≡ decided (verdict (image_rows (reading_of file).header (length image) index)) (At (extent_of (reading_of file).header index)) Unlocated
+    ≡ decided (verdict (image_rows (reading_of file).header (length image) index)) (Ok (extent_of (reading_of file).header index)) Err
 unfolding located_of
 accepted_located file image index a =
     rw a (passed_located (shape_of_record (reading_of file).header) (length image) index (clear_accepted (accepted_record file a)))
 
-module _ (file image index : List ℕ) (e : Extent) (at : located_of file image index ≡ At e) where
-  pub located_both : IsAccepted file × (located_in (reading_of file).header (length image) index ≡ At e)
+module _ (file image index : List ℕ) (e : Extent) (at : located_of file image index ≡ Ok e) where
+  pub located_both : IsAccepted file × (located_in (reading_of file).header (length image) index ≡ Ok e)
   unfolding located_of
   located_both = decided_accepted (reading_of file).verdict (λ r. unlocated_never) at
 
@@ -83,7 +82,7 @@ module _ (file image index : List ℕ) (e : Extent) (at : located_of file image 
       ap length voxel_bytes_are ∙ simp (length-take, length-drop) (omega arith)
 
 -- The index is one that the calls take, seven numbers far below 2^64, and those after dim[0] are 0.
-module _ (file image index : List ℕ) (e : Extent) (at : located_of file image index ≡ At e) where
+module _ (file image index : List ℕ) (e : Extent) (at : located_of file image index ≡ Ok e) where
   pub located_seven : (length index ≡ 7) × ((k : ℕ) → get_or index k 0 ≤ 32767)
   unfolding shape_in
   located_seven =
@@ -101,21 +100,21 @@ module _ (file image index : List ℕ) (e : Extent) (at : located_of file image 
       seven_past dim (axis_count dim) index k f.inside l
 
 -- The part is empty exactly when the place is refused.
-pub refused_empty : (file image index : List ℕ) (r : Refusal) → located_of file image index ≡ Unlocated r → voxel_of file image index ≡ []
+pub refused_empty : (file image index : List ℕ) (r : Refusal) → located_of file image index ≡ Err r → voxel_of file image index ≡ []
 unfolding voxel_of
 refused_empty file image index r e = rw e
 
 pub voxel_empty : (file image index : List ℕ)
-    → (voxel_of file image index ≡ []) ↔ ((r : Refusal) × (located_of file image index ≡ Unlocated r))
+    → (voxel_of file image index ≡ []) ↔ ((r : Refusal) × (located_of file image index ≡ Err r))
 voxel_empty file image index = (by (located_of file image index) refl, λ p. refused_empty file image index p.0 p.1)
   where
-    by : (l : Located) → located_of file image index ≡ l → voxel_of file image index ≡ []
-        → (r : Refusal) × (located_of file image index ≡ Unlocated r)
-    by (Unlocated r) d z = (r, d)
-    by (At e) d z = absurd (omega (arith, voxel_some file image index e d, voxel_length file image index e d, ap length z))
+    by : (l : Result Extent Refusal) → located_of file image index ≡ l → voxel_of file image index ≡ []
+        → (r : Refusal) × (located_of file image index ≡ Err r)
+    by (Err r) d z = (r, d)
+    by (Ok e) d z = absurd (omega (arith, voxel_some file image index e d, voxel_length file image index e d, ap length z))
 
 -- The bytes of two voxels never meet: a byte is in one voxel, and at one place of it.
-pub voxels_apart : (file image is js : List ℕ) (d e : Extent) → located_of file image is ≡ At d → located_of file image js ≡ At e
+pub voxels_apart : (file image is js : List ℕ) (d e : Extent) → located_of file image is ≡ Ok d → located_of file image js ≡ Ok e
     → (o p : ℕ) → o < d.length → p < e.length → d.place + o ≡ e.place + p → (is ≡ js) × (o ≡ p)
 voxels_apart file image is js d e at bt o p below under same =
     let h = (reading_of file).header in
@@ -132,18 +131,18 @@ voxels_apart file image is js d e at bt o p below under same =
 module _ (file image : List ℕ) (a : IsAccepted file)
     (whole : image_cut (reading_of file).header.kind (length image) (reading_of file).image ≡ false) where
   pub index_located : (index : List ℕ) → within (lengths_of (reading_of file).header) index ≡ true
-      → located_of file image index ≡ At (extent_of (reading_of file).header index)
+      → located_of file image index ≡ Ok (extent_of (reading_of file).header index)
   index_located index inside =
       let h = (reading_of file).header in
       let cut : image_cut h.kind (length image) (image_of (shape_of_record h)) ≡ false = rw (record_image file a) whole in
       let outside : not (within (lengths_of h) index) ≡ false = rw inside in
-      let v : verdict (image_rows h (length image) index) ≡ Accepted = clear_accepted (one cut (one outside none)) in
+      let v : verdict (image_rows h (length image) index) ≡ no_refusal = clear_accepted (one cut (one outside none)) in
       accepted_located file image index a ∙ rw v
 
   -- and so each byte of it is in a voxel, and in exactly one.
   pub byte_located : (x : ℕ) → (reading_of file).image.offset ≤ x
       → x < (reading_of file).image.offset + (reading_of file).image.bytes
-      → (index : List ℕ) × (e : Extent) × (o : ℕ) × (located_of file image index ≡ At e) × (o < e.length) × (e.place + o ≡ x)
+      → (index : List ℕ) × (e : Extent) × (o : ℕ) × (located_of file image index ≡ Ok e) × (o < e.length) × (e.place + o ≡ x)
   byte_located x from upto =
       let h = (reading_of file).header in
       let i : Image = image_of (shape_of_record h) in
@@ -174,8 +173,8 @@ module _ (file a b index : List ℕ) (single : (reading_of file).header.kind ≡
 -- ---- The numbers of the refusals
 
 -- of files: 1 to 15, 16 and 17
-pub located_number : (file image index : List ℕ) (r : Refusal) → located_of file image index ≡ Unlocated r
-    → between 1 17 r.number ≡ true
+pub located_number : (file image index : List ℕ) (r : Refusal) → located_of file image index ≡ Err r
+    → between 1 17 (number_of r.rule) ≡ true
 unfolding located_of located_by
 located_number file image index r e =
     let h = (reading_of file).header in
@@ -187,13 +186,13 @@ abbrev pub single_number : ℕ → Bool
 single_number n = between 1 15 n || eqb n 17
 
 pub single_no_16 : (file image index : List ℕ) (r : Refusal) → (reading_of file).header.kind ≡ Single
-    → located_of file image index ≡ Unlocated r → single_number r.number ≡ true
+    → located_of file image index ≡ Err r → single_number (number_of r.rule) ≡ true
 unfolding located_of
 single_no_16 file image index r single e = answered_number single_number file r (λ n h. rw h) (λ q. unlocated_same q r) own e
   where
-    own : IsAccepted file → located_in (reading_of file).header (length image) index ≡ Unlocated r → single_number r.number ≡ true
+    own : IsAccepted file → located_in (reading_of file).header (length image) index ≡ Err r → single_number (number_of r.rule) ≡ true
     own a d =
         let h = (reading_of file).header in
         let l = passed_located (shape_of_record h) (length image) index (clear_accepted (accepted_record file a)) in
-        rows_number single_number (row 17 (not (within (lengths_of h) index)) 0 ∷ []) (extent_of h index) r refl
+        rows_number single_number (row IndexOutside (not (within (lengths_of h) index)) 0 ∷ []) (extent_of h index) r refl
         (rw (single_rows h (length image) index single) at (sym l ∙ d))

@@ -2,119 +2,89 @@
 // the file's outline; then the sizes give the place, by the same sum as of a record, and no record is made.
 #![tactic(auto)]
 
-ghost use Rattle.std.specs.Prelude.{◌≡◌, [], ◌∷◌, ◌+◌, ◌≤◌, length, take, drop};
-ghost use Rattle.rules.specs.Rules.{holder};
-ghost use Rattle.reader.specs.Reading.{reading_of};
-ghost use Rattle.outline.specs.Outline.{outline_of};
-ghost use Rattle.voxel.specs.Voxel.{located_in};
-ghost use Rattle.by_file.specs.Files.{located_of, voxel_of};
+ghost use Rattle.std.specs.Prelude.{◌≡◌, true, false};
+ghost use Rattle.grid.specs.Grid.{within};
+ghost use Rattle.grid.specs.Axes.{seven_axes};
+ghost use Rattle.rules.specs.Rules.{axis_count, offset_outside, holder};
+ghost use Rattle.voxel.specs.Steps.{no_axes, strays, stepped_by};
+ghost use Rattle.by_file.specs.Files.{volume_in, located_of, voxel_of};
 
+use field::Number;
 use header::Kind;
-use outline::{Outline, Outlined};
-use voxel::{Extent, Located};
+use refusal::{Refusal, Rule};
+use rules::Image;
+use voxel::{Extent, Volume};
 
-// Rules 16 and 17 of an accepted file, and the voxel's place.
-fn locate_shown(file: &[u8], outline: Outline, len: usize, index: [u64; 7]) -> Located
-    requires { outline_of 0 file.now ≡ Outlined.Shown outline }
-    ensures { result ≡ located_in (reading_of file.now).header len index }
+// What the voxels of a file are located by, or the file's refusal. Inlined, so that its numbers stay in registers.
+#[inline(always)]
+pub fn volume(file: &[u8]) -> Result<Volume, Refusal>
+    ensures { result ≡ volume_in file.now }
 {
-    let layout = outline.layout;
-    let order = layout.order;
-    let kind = layout.kind;
-    let image = layout.image;
-    if bounds::image_cut(kind, len, image) {
-        return voxel::unlocated(16, 0);
+    let layout = outline::outline_of(file, 0)?.layout;
+    let dim = header::dims(file, layout.order);
+    let bitpix = i16::read(file, 72, layout.order);
+    Ok(Volume {
+        dim,
+        offset: layout.image.offset,
+        sizes: sizes::sizes_in(dim, bitpix),
+        kind: layout.kind,
+    })
+}
+
+// A voxel by what an accepted file's voxels are located by: of the rules of `voxel::locate_at` 16 and 17 alone are left. `locate_at` is
+// not called here, for with a second caller the compiler no longer puts it into the loop of the first.
+#[tactic(auto, unfolding(voxel::specs::Steps::stepped_by, refusal::specs::Table::verdict))]
+fn locate_by(v: Volume, len: usize, index: [u64; 7]) -> Result<Extent, Refusal>
+    requires { (no_axes v.dim ≡ false) × (offset_outside v.kind v.offset 0 ≡ false)
+        × (within (seven_axes v.dim (axis_count v.dim)) index ≡ true → strays v index ≡ false) }
+    ensures { result ≡ stepped_by v len index }
+{
+    let sizes = v.sizes;
+    let image = Image {
+        offset: v.offset,
+        bytes: sizes.total,
+    };
+    if bounds::image_cut(v.kind, len, image) {
+        return Err(Rule::ImageCut.at(0));
     }
-    let dim = header::dims(file, order);
-    let bitpix = field::read_i16(file, 72, order);
-    let sizes = sizes::sizes_in(dim, bitpix);
-    let steps = sizes.steps;
-    let before = sizes::bytes_before(&dim, rules::axis_count(&dim), &steps, &index);
+    let before = sizes::bytes_before(&v.dim, rules::axis_count(&v.dim), &sizes.steps, &index);
     if before == sizes::OUTSIDE {
-        return voxel::unlocated(17, 0);
+        return Err(Rule::IndexOutside.at(0));
     }
-    Located::At(Extent {
-        place: image.offset + before,
-        length: steps[0],
+    Ok(Extent {
+        place: v.offset + before,
+        length: sizes.steps[0],
     })
 }
 
 // The place and length of a voxel's bytes, or the refusal.
-pub fn locate(
-    file: &[u8],
-    image: &[u8],
-    i1: u64,
-    i2: u64,
-    i3: u64,
-    i4: u64,
-    i5: u64,
-    i6: u64,
-    i7: u64,
-) -> Located
-    ensures { result ≡ located_of file.now image.now (i1 ∷ i2 ∷ i3 ∷ i4 ∷ i5 ∷ i6 ∷ i7 ∷ []) }
+pub fn locate(file: &[u8], image: &[u8], index: [u64; 7]) -> Result<Extent, Refusal>
+    ensures { result ≡ located_of file.now image.now index }
 {
-    let outlined = outline::outline_of(file, 0);
-    match outlined {
-        Outlined::Hidden(r) => Located::Unlocated(r),
-        Outlined::Shown(outline) => locate_shown(
-            file,
-            outline,
-            image.len(),
-            [i1, i2, i3, i4, i5, i6, i7],
-        ),
-    }
+    locate_by(volume(file)?, image.len(), index)
 }
 
-// The n bytes from a place on of the file that holds the image.
-fn part<'a>(file: &'a [u8], image: &'a [u8], kind: Kind, at: usize, n: usize) -> &'a [u8]
-    requires { at + n ≤ length (holder kind file.now image.now) }
-    ensures { result.now ≡ take n (drop at (holder kind file.now image.now)) }
+// The file that holds the image.
+pub fn holder<'a>(file: &'a [u8], image: &'a [u8], kind: Kind) -> &'a [u8]
+    ensures { result.now ≡ holder kind file.now image.now }
 {
     match kind {
-        Kind::Single => {
-            let end = at + n;
-            &file[at..end]
-        }
-        Kind::Pair => {
-            let end = at + n;
-            &image[at..end]
-        }
+        Kind::Single => file,
+        Kind::Pair => image,
     }
 }
 
 // The voxel's bytes, as a part of the file or of the image file; none where `locate` refuses.
-pub fn voxel<'a>(
-    file: &'a [u8],
-    image: &'a [u8],
-    i1: u64,
-    i2: u64,
-    i3: u64,
-    i4: u64,
-    i5: u64,
-    i6: u64,
-    i7: u64,
-) -> &'a [u8]
-    ensures { result.now ≡ voxel_of file.now image.now (i1 ∷ i2 ∷ i3 ∷ i4 ∷ i5 ∷ i6 ∷ i7 ∷ []) }
+pub fn voxel<'a>(file: &'a [u8], image: &'a [u8], index: [u64; 7]) -> &'a [u8]
+    ensures { result.now ≡ voxel_of file.now image.now index }
 {
-    let outlined = outline::outline_of(file, 0);
-    match outlined {
-        Outlined::Hidden(_) => &file[0..0],
-        Outlined::Shown(outline) => {
-            let located = locate_shown(file, outline, image.len(), [i1, i2, i3, i4, i5, i6, i7]);
-            match located {
-                Located::Unlocated(_) => &file[0..0],
-                Located::At(extent) => {
-                    let layout = outline.layout;
-                    let kind = layout.kind;
-                    part(
-                        file,
-                        image,
-                        kind,
-                        extent.place as usize,
-                        extent.length as usize,
-                    )
-                }
-            }
-        }
-    }
+    let Ok(v) = volume(file) else {
+        return &file[0..0];
+    };
+    let Ok(extent) = locate_by(v, image.len(), index) else {
+        return &file[0..0];
+    };
+    let from = extent.place as usize;
+    let end = from + extent.length as usize;
+    &holder(file, image, v.kind)[from..end]
 }

@@ -1,10 +1,6 @@
 -- A pair: two bytes side by side as one number, the first of them lowest.
 use Rattle.std.specs.Prelude.{ℕ, List}
-use Rattle.field.specs.Numbers.{bytes_at, little_value, little_bytes}
-
--- the pair from `at`
-unfoldable pub pair_at : List ℕ → ℕ → ℕ
-pair_at s at = little_value (bytes_at at 2 s)
+use Rattle.field.specs.Numbers.{little_bytes}
 
 -- the bytes of a pair
 unfoldable pub pair_bytes : ℕ → List ℕ

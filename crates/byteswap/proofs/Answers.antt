@@ -1,4 +1,6 @@
 -- What the swap answers, from what the outline of the file shows: the laws that the functions' proofs cite.
+use Rattle.refusal.specs.declared.Rule.TheVariants.{ImageCut}
+use Rattle.std.specs.Prelude.{Err}
 use Prim.Native.Nat.{ℕ, ◌+◌, ◌/◌, ◌≤◌}
 use mathlib.Core.Path.{◌≡◌, sym, ap, ◌∙◌}
 use mathlib.Core.Bool.{Bool, true, false}
@@ -7,9 +9,7 @@ use borrow.Author.Tests.{ltb-false}
 use lib.ListN.{length, drop}
 use lib.Seq.{drop-drop}
 use Rattle.refusal.specs.declared.Refusal.{Refusal}
-use Rattle.refusal.specs.declared.Verdict.{Verdict}
-use Rattle.refusal.specs.declared.Verdict.TheVariants.{Accepted, Refused}
-use Rattle.refusal.specs.Table.{refusal}
+use Rattle.refusal.specs.Table.{refusal, no_refusal}
 use Rattle.extension.specs.declared.Span.{Span}
 use Rattle.extension.specs.Walk.{Walked, first_place, listed, stopped}
 use Rattle.header.specs.declared.Kind.TheVariants.{Single, Pair}
@@ -19,7 +19,6 @@ use Rattle.layout.specs.File.{kind_of, has_extensions, layout_of}
 use Rattle.reader.specs.Reading.{extensions_of, judgement}
 use Rattle.reader.proofs.File.{AcceptedFile}
 use Rattle.outline.specs.declared.Outline.{Outline}
-use Rattle.outline.specs.declared.Outlined.TheVariants.{Hidden}
 use Rattle.outline.specs.Outline.{outline_of}
 use Rattle.outline.proofs.Outlines.{hidden_judged, Shows}
 use Rattle.units.specs.Units.{turned_at}
@@ -28,17 +27,13 @@ use Rattle.units.proofs.Runs.{runs_behind, header_span}
 use Rattle.turning.specs.Turn.{unit_in, extension_runs, runs_in, Standing}
 use Rattle.turning.proofs.Turning.{Holds, listed_holds}
 use Rattle.byteswap.specs.Swap.{unless_cut, swap_list, answer_by, turned_file, turned_image}
-use Rattle.byteswap.specs.Swap.{swap_answer, swapped_file, swapped_image}
+use Rattle.byteswap.specs.Swap.{Swaps, swap_answer, swapped_file, swapped_image}
 use Rattle.byteswap.proofs.Whole.{place_of, unit_for, runs_of, image_runs_of, unit_some, single_turned, pair_turned, image_single, image_pair}
-
--- an answer, and what is left in the two buffers: those of the swap
-abbrev Swaps : List ℕ → List ℕ → Verdict → List ℕ → List ℕ → Type 0
-Swaps s image v s' image' = (v ≡ swap_answer s image) × (s' ≡ swapped_file s image) × (image' ≡ swapped_image s image)
 
 -- ---- A refused swap
 
 module _ (s image : List ℕ) (r : Refusal) where
-  pub swaps_stopped : swap_list s image ≡ stopped r → Swaps s image (Refused r) s image
+  pub swaps_stopped : swap_list s image ≡ stopped r → Swaps s image (Err r) s image
   unfolding swap_answer swapped_file swapped_image
   swaps_stopped e = (rw e, rw e, rw e)
 
@@ -46,13 +41,13 @@ module _ (s image : List ℕ) (r : Refusal) where
   unfolding swap_list
   stops e = rw e
 
-  pub swaps_hidden : outline_of 0 s ≡ Hidden r → Swaps s image (Refused r) s image
+  pub swaps_hidden : outline_of 0 s ≡ Err r → Swaps s image (Err r) s image
   swaps_hidden e = swaps_stopped (stops (hidden_judged s 0 r e))
 
 -- ---- A swap that is not refused: the runs of the file and of its image file are turned round
 
 module _ (s image : List ℕ) (xs : List Span) (e : swap_list s image ≡ listed xs) where
-  pub swaps_listed : Accepted ≡ swap_answer s image
+  pub swaps_listed : no_refusal ≡ swap_answer s image
   unfolding swap_answer
   swaps_listed = sym (ap answer_by e)
 
@@ -106,15 +101,15 @@ module _ {s : List ℕ} {o : Outline} (shown : Shows s 0 o) where
     unfolding swap_list
     lists_by c e = (λ i. unless_cut (image_cut (layout i).kind (length image) (layout i).image) (file.judged i)) ∙ rw e
 
-    pub swaps_cut : image_cut o.layout.kind (length image) o.layout.image ≡ true → Swaps s image (Refused (refusal 16 0)) s image
-    swaps_cut c = swaps_stopped s image (refusal 16 0) (lists_by true c)
+    pub swaps_cut : image_cut o.layout.kind (length image) o.layout.image ≡ true → Swaps s image (Err (refusal ImageCut 0)) s image
+    swaps_cut c = swaps_stopped s image (refusal ImageCut 0) (lists_by true c)
 
     module _ (c : image_cut o.layout.kind (length image) o.layout.image ≡ false) where
       pub pair_room : o.layout.kind ≡ Pair → o.layout.image.offset + o.layout.image.bytes ≤ length image
       pair_room k = ltb-false (length image) (o.layout.image.offset + o.layout.image.bytes) (rw k at c)
 
       swaps_by : (s' image' : List ℕ) → s' ≡ turn_runs (runs_of s shown.list) s → image' ≡ turn_runs (image_runs_of s) image
-          → Swaps s image Accepted s' image'
+          → Swaps s image no_refusal s' image'
       swaps_by s' image' d e =
           let t = lists_by false c in
           (swaps_listed s image shown.list t, d ∙ sym (file_turned s image shown.list t), e ∙ sym (image_turned s image shown.list t))
@@ -126,7 +121,7 @@ module _ {s : List ℕ} {o : Outline} (shown : Shows s 0 o) where
         list_turned = rw (listed_runs s₁ e₁) at e₂
 
         pub swaps_single : o.layout.kind ≡ Single → (s₃ : List ℕ) → s₃ ≡ turned_at unit o.layout.image.offset (o.layout.image.bytes / unit) s₂
-            → Swaps s image Accepted s₃ image
+            → Swaps s image no_refusal s₃ image
         swaps_single k s₃ e₃ =
             let single : kind_of s ≡ Single = ap (λ (m : Layout). m.kind) layout ∙ k in
             swaps_by s₃ image
@@ -134,7 +129,7 @@ module _ {s : List ℕ} {o : Outline} (shown : Shows s 0 o) where
             (image_single (kind_of s) (place_of s) (unit_for s) image single)
 
         pub swaps_pair : o.layout.kind ≡ Pair → (i : List ℕ) → i ≡ turned_at unit o.layout.image.offset (o.layout.image.bytes / unit) image
-            → Swaps s image Accepted s₂ i
+            → Swaps s image no_refusal s₂ i
         swaps_pair k i e₃ =
             let pair : kind_of s ≡ Pair = ap (λ (m : Layout). m.kind) layout ∙ k in
             swaps_by s₂ i

@@ -1,5 +1,6 @@
 -- A swapped file as the reader sees it: every rule answers as it did, and the extensions are the same, so it is accepted and its
 -- reading is the old one in the other byte order (`reading_swapped`).
+use Rattle.refusal.specs.Table.{no_refusal}
 use Prim.Native.Nat.{ℕ, ◌+◌, ◌-◌, ◌*◌, ◌≤◌, ◌<◌}
 use mathlib.Core.Path.{◌≡◌, refl, sym, ap, ◌∙◌}
 use mathlib.Core.Bool.{Bool, true, false}
@@ -12,7 +13,6 @@ use lib.Seq.{get_or-drop}
 use Rattle.field.specs.declared.Order.{Order}
 use Rattle.field.specs.Numbers.{other, i32_at}
 use Rattle.field.proofs.Tabulate.{tabulate_same}
-use Rattle.refusal.specs.declared.Verdict.TheVariants.{Accepted}
 use Rattle.number.proofs.Lists.{drop-take_add}
 use Rattle.extension.specs.declared.Span.{Span}
 use Rattle.extension.specs.Walk.{extension_limit, first_place, rest_of, walk, listed, extensions_in}
@@ -170,5 +170,5 @@ module _ {s : List ℕ} {xs : List Span} (f : AcceptedFile s xs) where
   unfolding header_of
   reading_swapped =
       file_reads swapped xs swapped_file_lem
-      ∙ (λ i. record { verdict = Accepted; header = completed (header_is i); image = image_of (shape_is i) })
+      ∙ (λ i. record { verdict = no_refusal; header = completed (header_is i); image = image_of (shape_is i) })
       ∙ sym (ap read_in_other (file_reads s xs f))

@@ -2,6 +2,8 @@
 -- on what is proved): what it refuses, and by which numbers; a single file needs no image buffer; swapping again restores each byte; a
 -- swapped file is accepted and reads as the same record in the other order; and each voxel has its units turned round. And that the two
 -- calls which swap agree (02-change-requests.md, P3).
+use Rattle.refusal.specs.declared.Rule.TheVariants.{ImageCut}
+use Rattle.std.specs.Prelude.{Err, Some}
 use Prim.Native.Nat.{ℕ, ◌+◌, ◌*◌, ◌/◌, ◌≤◌}
 use mathlib.Core.Path.{◌≡◌, refl, sym, ap, ◌∙◌}
 use mathlib.Core.Bool.{Bool, true, false}
@@ -10,12 +12,9 @@ use native.Mathlib.Omega.{arith}
 use native.Mathlib.Nat.{div-add-mod'}
 use lib.ListN.{length}
 use Rattle.refusal.specs.declared.Refusal.{Refusal}
-use Rattle.refusal.specs.declared.Verdict.{Verdict}
-use Rattle.refusal.specs.declared.Verdict.TheVariants.{Accepted, Refused}
-use Rattle.refusal.specs.Table.{Row, row, verdict, then}
+use Rattle.refusal.specs.Table.{Row, row, verdict, then, Verdict, number_of, no_refusal}
 use Rattle.refusal.proofs.Rows.{none, one, refused_never, clear_accepted, between, between_wider, verdict_number}
 use Rattle.datatype.specs.declared.Format.{Format}
-use Rattle.datatype.specs.declared.Datatype.TheVariants.{Known}
 use Rattle.datatype.specs.Datatypes.{datatype_of}
 use Rattle.datatype.proofs.Sound.{known_sound}
 use Rattle.extension.specs.declared.Span.{Span}
@@ -41,9 +40,9 @@ use Rattle.byteswap.proofs.Again.{accepts, file_is, image_length_lem, image_room
 
 -- rule 16
 abbrev image_row : List ℕ → List ℕ → List Row
-image_row file image = row 16 (image_cut (kind_of file) (length image) (place_of file)) 0 ∷ []
+image_row file image = row ImageCut (image_cut (kind_of file) (length image) (place_of file)) 0 ∷ []
 
-answer_by_lem : (s : List ℕ) (c : Bool) (w : Walked) → answer_by (unless_cut c w) ≡ then (reading_by s w).verdict (verdict (row 16 c 0 ∷ []))
+answer_by_lem : (s : List ℕ) (c : Bool) (w : Walked) → answer_by (unless_cut c w) ≡ then (reading_by s w).verdict (verdict (row ImageCut c 0 ∷ []))
 unfolding verdict
 answer_by_lem s true (listed xs) = refl
 answer_by_lem s false (listed xs) = refl
@@ -52,20 +51,20 @@ answer_by_lem s c (stopped r) = refl
 -- the swap refuses what the reader refuses, and then rule 16
 pub swap_answer_lem : (file image : List ℕ)
     → swap_answer file image
-    ≡ then (reading_of file).verdict (verdict (row 16 (image_cut (kind_of file) (length image) (image_of (shape_of file))) 0 ∷ []))
+    ≡ then (reading_of file).verdict (verdict (row ImageCut (image_cut (kind_of file) (length image) (image_of (shape_of file))) 0 ∷ []))
 unfolding swap_answer swap_list reading_of
 swap_answer_lem file image = answer_by_lem file (image_cut (kind_of file) (length image) (place_of file)) (judgement file)
 
 -- by 1 to 16, and of a single file by 1 to 15
-module _ (file image : List ℕ) (r : Refusal) (e : swap_answer file image ≡ Refused r) where
+module _ (file image : List ℕ) (r : Refusal) (e : swap_answer file image ≡ Err r) where
   by_number : (p : ℕ → Bool) → ((n : ℕ) → between 1 15 n ≡ true → p n ≡ true)
-      → (IsAccepted file → verdict (image_row file image) ≡ Refused r → p r.number ≡ true) → p r.number ≡ true
+      → (IsAccepted file → verdict (image_row file image) ≡ Err r → p (number_of r.rule) ≡ true) → p (number_of r.rule) ≡ true
   by_number p wider own = answered_number p file r wider (λ q d. cc) own (sym (swap_answer_lem file image) ∙ e)
 
-  pub swap_number : between 1 16 r.number ≡ true
+  pub swap_number : between 1 16 (number_of r.rule) ≡ true
   swap_number = by_number (between 1 16) (λ n. between_wider 1 15 1 16 n refl) (λ a. verdict_number (between 1 16) (image_row file image) r refl)
 
-  pub swap_single_number : (reading_of file).header.kind ≡ Single → between 1 15 r.number ≡ true
+  pub swap_single_number : (reading_of file).header.kind ≡ Single → between 1 15 (number_of r.rule) ≡ true
   unfolding shape_in
   swap_single_number single =
       by_number (between 1 15) (λ n h. h)
@@ -164,11 +163,11 @@ swap_accepted file image a = by (swap_list file image) refl
 
 -- ---- A swap that is not refused
 
-accepted_by : (w : Walked) → answer_by w ≡ Accepted → (xs : List Span) × (w ≡ listed xs)
+accepted_by : (w : Walked) → answer_by w ≡ no_refusal → (xs : List Span) × (w ≡ listed xs)
 accepted_by (listed xs) e = (xs, refl)
 accepted_by (stopped r) e = refused_never e
 
-module _ (file image : List ℕ) (a : swap_answer file image ≡ Accepted) where
+module _ (file image : List ℕ) (a : swap_answer file image ≡ no_refusal) where
   swaps : (xs : List Span) × (swap_list file image ≡ listed xs)
   unfolding swap_answer
   swaps = accepted_by (swap_list file image) a
@@ -182,7 +181,7 @@ module _ (file image : List ℕ) (a : swap_answer file image ≡ Accepted) where
   swap_extender = ap extender_of (file_is file image swaps.0 swaps.1) ∙ extender_is (accepts file image swaps.0 swaps.1)
 
   -- the voxel of the datatype's bytes that k others are before: its units are turned round, each in its place
-  module _ (t : Format) (d : datatype_of (shape_of file).datatype ≡ Known t) where
+  module _ (t : Format) (d : datatype_of (shape_of file).datatype ≡ Some t) where
     units_of : t.bytes / t.unit * unit_for file ≡ t.bytes
     units_of =
         let s = known_sound (shape_of file).datatype t d in

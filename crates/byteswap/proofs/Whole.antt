@@ -1,5 +1,6 @@
 -- The swap as a chain of steps over a file's runs (crate units, `Chain`): the header, the extensions, and the image of a single file;
 -- and over a pair's image file.
+use Rattle.std.specs.Prelude.{Some}
 use Prim.Native.Nat.{ℕ, ◌+◌, ◌-◌, ◌/◌, ◌≤◌, ◌<◌}
 use mathlib.Core.Path.{◌≡◌, refl, ap, ◌∙◌, subst}
 use mathlib.Core.Bool.{false}
@@ -9,7 +10,6 @@ use native.Mathlib.Nat.{zero-add, div-mul-le_self}
 use borrow.Author.Tests.{ltb-false}
 use lib.ListN.{length, take-append-drop}
 use Rattle.datatype.specs.declared.Format.{Format}
-use Rattle.datatype.specs.declared.Datatype.TheVariants.{Known}
 use Rattle.datatype.specs.Datatypes.{datatype_of}
 use Rattle.datatype.proofs.Sound.{known_sound}
 use Rattle.extension.specs.declared.Span.{Span}
@@ -44,7 +44,7 @@ runs_of s xs = file_runs (kind_of s) (place_of s) (unit_for s) (length s) xs
 abbrev pub image_runs_of : List ℕ → List Run
 image_runs_of s = image_file_runs (kind_of s) (place_of s) (unit_for s)
 
-pub unit_known : (s : List ℕ) (t : Format) → datatype_of (shape_of s).datatype ≡ Known t → unit_for s ≡ t.unit
+pub unit_known : (s : List ℕ) (t : Format) → datatype_of (shape_of s).datatype ≡ Some t → unit_for s ≡ t.unit
 unfolding unit_in shape_in
 unit_known s t d = ap unit_of d
 

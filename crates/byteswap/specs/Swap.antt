@@ -2,10 +2,9 @@
 -- field, unused numbers included, each extension's size and code, and each swap unit of the image. All else stays: text, private
 -- bytes, payloads, an image file's front, bytes after the image." So a file is one list of runs (crate units); a run of width 1
 -- stays, and so does what follows the last run. The unit of a file and the runs of its extensions are those of crate turning.
-use Rattle.std.specs.Prelude.{ℕ, ◌-◌, ◌/◌, ◌≡◌, Bool, cond, List, [], ◌∷◌, ◌++◌, length}
-use Rattle.refusal.specs.declared.Verdict.{Verdict}
-use Rattle.refusal.specs.declared.Verdict.TheVariants.{Accepted, Refused}
-use Rattle.refusal.specs.Table.{refusal}
+use Rattle.refusal.specs.declared.Rule.TheVariants.{ImageCut}
+use Rattle.std.specs.Prelude.{ℕ, ◌-◌, ◌/◌, ◌≡◌, Bool, cond, List, [], ◌∷◌, ◌++◌, length, Err}
+use Rattle.refusal.specs.Table.{refusal, Verdict, no_refusal}
 use Rattle.extension.specs.declared.Span.{Span}
 use Rattle.extension.specs.Walk.{Walked, listed, stopped}
 use Rattle.header.specs.declared.Kind.{Kind}
@@ -47,7 +46,7 @@ image_file_runs Pair image unit = run 1 image.offset ∷ image_runs image unit
 -- ---- What swapping answers, and what it leaves
 
 abbrev pub unless_cut : Bool → Walked → Walked
-unless_cut cut (listed xs) = cond cut (stopped (refusal 16 0)) (listed xs)
+unless_cut cut (listed xs) = cond cut (stopped (refusal ImageCut 0)) (listed xs)
 unless_cut cut (stopped r) = stopped r
 
 -- the extensions of a file that is to be swapped, where none of 1 to 16 holds; else the first refusal
@@ -55,8 +54,8 @@ unfoldable pub swap_list : List ℕ → List ℕ → Walked
 swap_list file image = unless_cut (image_cut (layout_of file).kind (length image) (layout_of file).image) (judgement file)
 
 abbrev pub answer_by : Walked → Verdict
-answer_by (listed xs) = Accepted
-answer_by (stopped r) = Refused r
+answer_by (listed xs) = no_refusal
+answer_by (stopped r) = Err r
 
 abbrev pub turned_file : Walked → Layout → List ℕ → List ℕ
 turned_file (listed xs) l s = turn_runs (file_runs l.kind l.image (unit_in l.order s) (length s) xs) s
@@ -76,7 +75,7 @@ swapped_file file image = turned_file (swap_list file image) (layout_of file) fi
 unfoldable pub swapped_image : List ℕ → List ℕ → List ℕ
 swapped_image file image = turned_image (swap_list file image) (layout_of file) file image
 
--- What both swaps promise: of the answer, and of what the file and the image file hold afterwards. 02-change-requests.md, P3: "both give the same answers and
+-- What a swap promises, by any engine: of the answer, and of what the file and the image file hold afterwards. 02-change-requests.md, P3: "both give the same answers and
 -- bytes on any input, refused or not"
 abbrev pub Swaps : List ℕ → List ℕ → Verdict → List ℕ → List ℕ → Type 0
 Swaps file image answer file' image' = (answer ≡ swap_answer file image) × (file' ≡ swapped_file file image) × (image' ≡ swapped_image file image)

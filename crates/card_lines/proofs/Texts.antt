@@ -1,4 +1,5 @@
 -- The text of the card's lines: how many bytes a line has, and how lines are written one behind the other.
+use Rattle.std.specs.Prelude.{Ok, Err, Some, None}
 use mathlib.Core.Path.{◌≡◌, refl, sym, ap, ◌∙◌}
 use mathlib.Core.List.{List, [], ◌∷◌, ◌++◌, append_assoc}
 use Prim.Native.Nat.{ℕ, zero, suc, ◌+◌, ◌-◌, ◌≤◌}
@@ -10,7 +11,6 @@ use Rattle.buffer.specs.Put.{put}
 use Rattle.buffer.proofs.Laws.{put_nil, put_right}
 use Rattle.decimal.specs.Decimal.{decimal}
 use Rattle.timing.specs.declared.Acquisition.{Acquisition}
-use Rattle.slice_rank.specs.declared.Ranked.TheVariants.{Refused, Unstated, At}
 use Rattle.slice_rank.specs.Ranked.{ranked_by}
 use Rattle.card_lines.specs.Lines.{line, lines_to, ended, line_text, lines_text}
 
@@ -26,19 +26,19 @@ ended_one l = refl
 
 -- ---- the line of a rank, by what the call answers of it
 module _ (a : Acquisition) (rank : ℕ) where
-  shown_text : (s : ℕ) → ranked_by a rank ≡ At s → line_text a rank ≡ (decimal rank ++ (32 ∷ [])) ++ (decimal s ++ (10 ∷ []))
+  shown_text : (s : ℕ) → ranked_by a rank ≡ Ok (Some s) → line_text a rank ≡ (decimal rank ++ (32 ∷ [])) ++ (decimal s ++ (10 ∷ []))
   unfolding line
   shown_text s e = rw e (ended_one (line rank s) ∙ simp append_assoc)
 
-  pub shown_length : (s : ℕ) → ranked_by a rank ≡ At s → length (line_text a rank) ≡ length (decimal rank) + length (decimal s) + 2
+  pub shown_length : (s : ℕ) → ranked_by a rank ≡ Ok (Some s) → length (line_text a rank) ≡ length (decimal rank) + length (decimal s) + 2
   shown_length s e = rw (shown_text s e) (simp length-append (omega arith))
 
   -- no line
-  pub unstated_text : ranked_by a rank ≡ Unstated → line_text a rank ≡ []
+  pub unstated_text : ranked_by a rank ≡ Ok None → line_text a rank ≡ []
   unfolding ended
   unstated_text e = rw e
 
-  pub refused_text : (r : Refusal) → ranked_by a rank ≡ Refused r → line_text a rank ≡ []
+  pub refused_text : (r : Refusal) → ranked_by a rank ≡ Err r → line_text a rank ≡ []
   unfolding ended
   refused_text r e = rw e
 
@@ -46,7 +46,7 @@ module _ (a : Acquisition) (rank : ℕ) where
   none_written l at e = rw e (omega arith, sym (put_nil l at))
 
   -- a line, in two parts
-  pub line_written : (l b d : List ℕ) (at p q s : ℕ) → ranked_by a rank ≡ At s → at + length (line_text a rank) ≤ length l
+  pub line_written : (l b d : List ℕ) (at p q s : ℕ) → ranked_by a rank ≡ Ok (Some s) → at + length (line_text a rank) ≤ length l
       → p ≡ at + length (decimal rank) + 1 → b ≡ put l at (decimal rank ++ (32 ∷ []))
       → q ≡ p + length (decimal s) + 1 → d ≡ put b p (decimal s ++ (10 ∷ []))
       → (q ≡ at + length (line_text a rank)) × (d ≡ put l at (line_text a rank))

@@ -6,18 +6,16 @@ ghost use Rattle.std.specs.Prelude.{◌≡◌, ◌+◌, ◌*◌, ◌≤◌, leng
 ghost use Rattle.buffer.specs.Put.{put};
 ghost use Rattle.card_lines.specs.Lines.{line_text, lines_text};
 
-use slice_rank::Ranked;
 use timing::Acquisition;
 
 // How many bytes the line of a rank has.
 fn line_width(a: Acquisition, rank: u64) -> usize
     ensures { (result ≡ length (line_text a rank)) × (result ≤ 42) }
 {
-    let ranked = slice_rank::ranked_by(a, rank);
-    match ranked {
-        Ranked::At(slice) => decimal::width(rank) + decimal::width(slice as u64) + 2,
-        Ranked::Unstated => 0,
-        Ranked::Refused(_) => 0,
+    match slice_rank::ranked_by(a, rank) {
+        Ok(Some(slice)) => decimal::width(rank) + decimal::width(slice as u64) + 2,
+        Ok(None) => 0,
+        Err(_) => 0,
     }
 }
 
@@ -26,15 +24,13 @@ fn put_line(out: &mut [u8], at: usize, a: Acquisition, rank: u64) -> usize
     requires { at + length (line_text a rank) ≤ length out.old }
     ensures { (result ≡ at + length (line_text a rank)) × (out.new ≡ put out.old at (line_text a rank)) }
 {
-    let ranked = slice_rank::ranked_by(a, rank);
-    match ranked {
-        Ranked::At(s) => {
-            let slice = s as u64;
+    match slice_rank::ranked_by(a, rank) {
+        Ok(Some(slice)) => {
             let next = decimal::put_number(out, at, rank, 32);
-            decimal::put_number(out, next, slice, 10)
+            decimal::put_number(out, next, slice as u64, 10)
         }
-        Ranked::Unstated => at,
-        Ranked::Refused(_) => at,
+        Ok(None) => at,
+        Err(_) => at,
     }
 }
 
@@ -43,13 +39,11 @@ pub fn lines_width(a: Acquisition, n: u64) -> usize
     requires { n ≤ 32768 }
     ensures { (result ≡ length (lines_text a n)) × (result ≤ 42 * n) }
 {
-    let mut k: usize = 0;
-    let mut rank: u64 = 0;
-    while rank < n {
-        k = k + line_width(a, rank);
-        rank = rank + 1;
+    let mut width = 0;
+    for rank in 0..n {
+        width += line_width(a, rank);
     }
-    k
+    width
 }
 
 // These lines into the front of out; the answer is the place behind them.
@@ -57,11 +51,9 @@ pub fn put_lines(out: &mut [u8], a: Acquisition, n: u64) -> usize
     requires { length (lines_text a n) ≤ length out.old }
     ensures { (result ≡ length (lines_text a n)) × (out.new ≡ put out.old 0 (lines_text a n)) }
 {
-    let mut at: usize = 0;
-    let mut rank: u64 = 0;
-    while rank < n {
+    let mut at = 0;
+    for rank in 0..n {
         at = put_line(out, at, a, rank);
-        rank = rank + 1;
     }
     at
 }

@@ -87,7 +87,7 @@ fn slot_at(span: Span) -> Slot
 {
     Slot {
         at: span.start,
-        old: field::bits32(span.size) as usize,
+        old: span.size.cast_unsigned() as usize,
     }
 }
 

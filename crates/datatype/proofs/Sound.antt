@@ -1,5 +1,6 @@
 -- What every format of the table has in common, by one test over the whole table: a voxel takes 1 to 32 bytes, which are its
 -- bits and divide into swap units.
+use Rattle.std.specs.Prelude.{Some, None, Option}
 use Prim.Native.Nat.{ℕ, ◌*◌, ◌%◌, ◌≤◌}
 use mathlib.Core.Path.{◌≡◌, refl, ap}
 use mathlib.Core.Bool.{Bool, true, false, cond, ◌&&◌, and-eq-true_iff}
@@ -10,8 +11,6 @@ use lib.Dec.{eqb, leb}
 use lib.IntN.{ℤ, pos}
 use Rattle.datatype.specs.Datatypes.{Entry, datatypes, datatype_of, is_number, format_of, lookup}
 use Rattle.datatype.specs.declared.Format.{Format}
-use Rattle.datatype.specs.declared.Datatype.{Datatype}
-use Rattle.datatype.specs.declared.Datatype.TheVariants.{Known, Unknown}
 
 pub record Sound (f : Format) : Type 0 where
   pub some : 1 ≤ f.bytes
@@ -54,19 +53,19 @@ entry_sound r h =
     }
 
 -- an unknown code has no format
-pub unknown_never {ℓ} : {A : Type ℓ} {f : Format} → Unknown ≡ Known f → A
+pub unknown_never {ℓ} : {A : Type ℓ} {f : Format} → None ≡ Some f → A
 unknown_never e = let q : ◌≡◌ {A = ℕ} 0 1 = cc in absurd (omega arith)
 
-pick_known : (t : Bool) (f g : Format) (d : Datatype) → cond t (Known g) d ≡ Known f → Sound g → (d ≡ Known f → Sound f) → Sound f
+pick_known : (t : Bool) (f g : Format) (d : Option Format) → cond t (Some g) d ≡ Some f → Sound g → (d ≡ Some f → Sound f) → Sound f
 pick_known true f g d e s rest = let q : g ≡ f = cc in rw (← q) s
 pick_known false f g d e s rest = rest e
 
-entries_sound : (z : ℤ) (f : Format) (rs : List Entry) → all_sound rs ≡ true → lookup z rs ≡ Known f → Sound f
+entries_sound : (z : ℤ) (f : Format) (rs : List Entry) → all_sound rs ≡ true → lookup z rs ≡ Some f → Sound f
 entries_sound z f [] h e = unknown_never e
 entries_sound z f (r ∷ rs) h e =
     let p = (and-eq-true_iff (sound r) (all_sound rs)).0 h in
     pick_known (is_number z r.code) f (format_of r) (lookup z rs) e (entry_sound r p.0) (λ g. entries_sound z f rs p.1 g)
 
-pub known_sound : (z : ℤ) (f : Format) → datatype_of z ≡ Known f → Sound f
+pub known_sound : (z : ℤ) (f : Format) → datatype_of z ≡ Some f → Sound f
 unfolding datatype_of
 known_sound z f e = entries_sound z f datatypes refl e

@@ -1,9 +1,7 @@
 -- The datatypes as one table, in the paper's order. 01-scope.md: "Datatype, bits, swap unit in bytes: 2, 8, 1; 4, 16, 2; ..".
 -- The codes are those of source document 002; the swap unit is the size of the parts of which a voxel is made.
-use Rattle.std.specs.Prelude.{ℕ, ◌/◌, Bool, false, cond, List, [], ◌∷◌, eqb, ℤ, pos, negsuc}
+use Rattle.std.specs.Prelude.{ℕ, ◌/◌, Bool, false, cond, List, [], ◌∷◌, eqb, ℤ, pos, negsuc, Some, None, Option}
 use Rattle.datatype.specs.declared.Format.{Format}
-use Rattle.datatype.specs.declared.Datatype.{Datatype}
-use Rattle.datatype.specs.declared.Datatype.TheVariants.{Known, Unknown}
 
 -- an entry of the table: code, bits, swap unit in bytes
 pub record Entry : Type 0 where
@@ -43,9 +41,9 @@ abbrev pub format_of : Entry → Format
 format_of r = record { bits = pos r.bits; bytes = r.bits / 8; unit = r.unit }
 
 -- the format of the entry with that code, if there is one
-abbrev pub lookup : ℤ → List Entry → Datatype
-lookup code [] = Unknown
-lookup code (r ∷ rs) = cond (is_number code r.code) (Known (format_of r)) (lookup code rs)
+abbrev pub lookup : ℤ → List Entry → Option Format
+lookup code [] = None
+lookup code (r ∷ rs) = cond (is_number code r.code) (Some (format_of r)) (lookup code rs)
 
-unfoldable pub datatype_of : ℤ → Datatype
+unfoldable pub datatype_of : ℤ → Option Format
 datatype_of code = lookup code datatypes

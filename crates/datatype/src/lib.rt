@@ -1,7 +1,7 @@
 // The sixteen datatypes: "Datatype, bits, swap unit in bytes" of 01-scope.md, with the codes of source document 002.
 #![tactic(auto)]
 
-ghost use Rattle.std.specs.Prelude.{◌≡◌};
+ghost use Rattle.std.specs.Prelude.{◌≡◌, Some};
 ghost use Rattle.datatype.specs.Datatypes.{datatype_of};
 
 // How a voxel is stored: its bits, as bitpix states them, its bytes, and the swap unit, that is how many bytes are
@@ -13,20 +13,14 @@ pub struct Format {
     pub unit: usize,
 }
 
-#[derive(Clone, Copy)]
-pub enum Datatype {
-    Known(Format),
-    Unknown,
-}
-
-fn known(bits: i16, bytes: u64, unit: usize) -> Datatype
-    ensures { result ≡ Datatype.Known (record { bits = bits; bytes = bytes; unit = unit }) }
+fn known(bits: i16, bytes: u64, unit: usize) -> Option<Format>
+    ensures { result ≡ Some (record { bits = bits; bytes = bytes; unit = unit }) }
 {
-    Datatype::Known(Format { bits, bytes, unit })
+    Some(Format { bits, bytes, unit })
 }
 
 // The format of a datatype code. Every number but the sixteen is unknown.
-pub fn datatype_of(code: i16) -> Datatype
+pub fn datatype_of(code: i16) -> Option<Format>
     ensures { result ≡ datatype_of code }
 {
     match code {
@@ -46,6 +40,6 @@ pub fn datatype_of(code: i16) -> Datatype
         1792 => known(128, 16, 8),
         2048 => known(256, 32, 16),
         2304 => known(32, 4, 1),
-        _ => Datatype::Unknown,
+        _ => None,
     }
 }

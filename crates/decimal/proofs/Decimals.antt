@@ -75,6 +75,17 @@ decimal_most (suc k) n h = go (ltb n 10) refl (λ l. decimal_most k (n / 10) (om
     go true e f = rw (decimal_one n (ltb-true n 10 e)) (omega arith)
     go false e f = let l = ltb-false n 10 e in omega (arith, decimal_longer n l, f l)
 
+tens_some : (k : ℕ) → 0 < 10 ^ k
+tens_some zero = omega arith
+tens_some (suc k) = omega (arith, pow-succ' 10 k, tens_some k)
+
+-- one of 10 ^ k or more has more than k
+pub decimal_least : (k n : ℕ) → 10 ^ k ≤ n → k < length (decimal n)
+decimal_least zero n h = decimal_some n
+decimal_least (suc k) n h =
+    let more : 10 ≤ n = omega (arith, pow-succ' 10 k, tens_some k) in
+    omega (arith, decimal_longer n more, decimal_least k (n / 10) (omega (arith, pow-succ' 10 k)))
+
 -- ---- which bytes
 
 -- no byte of the list is b

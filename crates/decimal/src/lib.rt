@@ -9,13 +9,10 @@ ghost use Rattle.decimal.specs.Decimal.{decimal};
 pub fn width(n: u64) -> usize
     ensures { (result ≡ length (decimal n)) × (result ≤ 20) }
 {
-    let mut k: usize = 1;
-    let mut rest = n;
-    while 10 <= rest {
-        rest = rest / 10;
-        k = k + 1;
+    if n == 0 {
+        return 1;
     }
-    k
+    n.ilog10() as usize + 1
 }
 
 // n into out from `at`, and the byte `after` behind it; the answer is the place behind both. The last digit is written first.
@@ -29,9 +26,9 @@ pub fn put_number(out: &mut [u8], at: usize, n: u64, after: u8) -> usize
     let mut i = end;
     let mut rest = n;
     while 10 <= rest {
-        i = i - 1;
+        i -= 1;
         out[i] = 48 + (rest % 10) as u8;
-        rest = rest / 10;
+        rest /= 10;
     }
     out[at] = 48 + rest as u8;
     end + 1

@@ -1,5 +1,6 @@
 -- The fresh file, read again: none of rules 1 to 15 holds of it, its extensions are the edited list, and its record is the old one after
 -- the edit.
+use Rattle.refusal.specs.Table.{no_refusal}
 use Prim.Native.Nat.{ℕ, suc, ◌+◌, ◌-◌, ◌%◌, ◌≤◌, ◌<◌}
 use mathlib.Core.Path.{◌≡◌, refl, sym, ap, ◌∙◌}
 use mathlib.Core.Bool.{true, false, and-false}
@@ -15,7 +16,6 @@ use mir.Val.{to_z}
 use Rattle.field.specs.declared.Order.{Order}
 use Rattle.field.specs.Numbers.{u32_at, i32_at, joined}
 use Rattle.field.proofs.Tabulate.{bytes_at_part}
-use Rattle.refusal.specs.declared.Verdict.TheVariants.{Accepted}
 use Rattle.number.proofs.Lists.{drop-take}
 use Rattle.offset.specs.Offset.{offset_limit, offset_bits, is_whole, whole_of, aligned_of}
 use Rattle.offset.proofs.Back.{back_whole, back_value, back_aligned}
@@ -255,7 +255,7 @@ module _ (f : List ℕ) (xs : List (List ℕ)) (long : 348 ≤ length f) where
       reads_new old a =
           let n : length ss ≡ length xs = length-spans_from (order_of f) first_place xs in
           file_reads g ss (new_file a.rules)
-          ∙ (λ i. record { verdict = Accepted; header = completed (header_is f xs long (n i) (spans_of ss) i); image = image_is i })
+          ∙ (λ i. record { verdict = no_refusal; header = completed (header_is f xs long (n i) (spans_of ss) i); image = image_is i })
           ∙ sym (ap (λ (r : Reading). read_after r xs) (file_reads f old a))
 
     pub tail_new : tail_of g ≡ tail_of f

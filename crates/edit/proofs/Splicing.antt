@@ -1,4 +1,5 @@
 -- The splice: what the moves and stores of an edit leave is the settled buffer with the fresh file.
+use Rattle.std.specs.Prelude.{Ok}
 use Prim.Native.Nat.{ℕ, ◌+◌, ◌-◌, ◌≤◌, ◌<◌, max}
 use mathlib.Core.Path.{◌≡◌, refl, sym, ap, ◌∙◌}
 use mathlib.Core.List.{List, ◌++◌, append_assoc}
@@ -22,10 +23,10 @@ use Rattle.change.specs.declared.Change.{Change}
 use Rattle.edit_plan.specs.declared.Plan.{Plan}
 use Rattle.edit_plan.specs.Fresh.{extension_list, tail_of, exchange, out_from, out_to, brought_in, edited_list, extender_for, end_for, head_for}
 use Rattle.edit_plan.specs.Fresh.{fresh_file, fresh_of}
-use Rattle.edit_plan.specs.Planned.{bytes_before, bytes_out, plan_of}
+use Rattle.edit_plan.specs.Planned.{bytes_before, bytes_out, plan_of, planned_of}
 use Rattle.edit_plan.proofs.Exchanging.{before_all, before_later, joined_exchange}
 use Rattle.edit_plan.proofs.Planning.{count_of, region_to, length_extender, length_new, length-fresh, places, out_inside, end_new, whole_new}
-use Rattle.edit_plan.proofs.Deciding.{Allowed, edited_complete}
+use Rattle.edit_plan.proofs.Deciding.{Allowed, allowed, planned, edited_complete}
 use Rattle.edit_store.specs.Stores.{extender_bytes}
 use Rattle.edit_store.proofs.Storing.{extender_is, extended, headed, headed_settled}
 
@@ -249,3 +250,17 @@ module _ (l : List ℕ) (len : ℕ) (change : Change) (code : ℤ) (p : List ℕ
         e₄
         ∙ rw (h₃, headed_settled x.kind x.order x.end l W (put g 348 e) (omega arith), fresh_is)
         (settled_longer l len (fresh_of f change code p) s.long)
+
+-- what a splice knows of its plan
+pub record Known (l : List ℕ) (len : ℕ) (change : Change) (code : ℤ) (p : List ℕ) (x : Plan) : Type 0 where
+  pub allowed : Allowed (take len l) (length l) change code p
+  pub carries : Carries (take len l) change code p x
+  pub sizes : Sizes l len change code p x
+
+pub known : {l : List ℕ} {len : ℕ} {change : Change} {code : ℤ} {p : List ℕ} {x : Plan} → len ≤ length l
+    → planned_of (take len l) (length l) change code p ≡ Ok x → Known l len change code p x
+known {l} {len} {change} {code} {p} {x} h e =
+    let go = planned (take len l) (length l) change code p x e in
+    let a = allowed (take len l) (length l) change code p go.0 in
+    let v = carries (take len l) change code p x go.1 in
+    record { allowed = a; carries = v; sizes = sizes l len change code p x h a v }

@@ -1,6 +1,8 @@
 -- Demand 3 but for its voxels: an edit that the table doesn't refuse leaves a file that is accepted, whose extensions are the edited list
 -- and whose other fields, image and tail are the old ones. One statement for append, replacement and removal, for a single file and
 -- a pair, in either byte order.
+use Rattle.refusal.specs.declared.Rule.TheVariants.{LengthAboveBuffer}
+use Rattle.std.specs.Prelude.{Ok, Err}
 use Prim.Native.Nat.{ℕ, ◌+◌, ◌-◌, ◌≤◌, ◌<◌}
 use mathlib.Core.Path.{◌≡◌, refl, sym, ap, subst, ◌∙◌}
 use mathlib.Core.Bool.{false, not}
@@ -14,8 +16,7 @@ use mir.Syntax.{w32}
 use mir.Val.{SFits}
 use Rattle.field.proofs.Tabulate.{bytes_at_part}
 use Rattle.refusal.specs.declared.Refusal.{Refusal}
-use Rattle.refusal.specs.declared.Verdict.TheVariants.{Accepted}
-use Rattle.refusal.specs.Table.{row, verdict}
+use Rattle.refusal.specs.Table.{row, verdict, no_refusal}
 use Rattle.refusal.proofs.Rows.{Clear, none, one, accepted_clear, clear_accepted, decided_accepted, refused_never}
 use Rattle.offset.specs.Offset.{offset_limit}
 use Rattle.extension.specs.declared.Span.{Span}
@@ -40,7 +41,6 @@ use Rattle.edit_plan.proofs.Cutting.{list_complete, length_list}
 use Rattle.edit_plan.proofs.Planning.{count_of, region_to, out_inside, whole_new, much_is}
 use Rattle.edit_plan.proofs.Deciding.{past_by, Allowed, allowed, edited_complete}
 use Rattle.edit.specs.declared.NewFile.{NewFile}
-use Rattle.edit.specs.declared.Edited.TheVariants.{Done, Denied}
 use Rattle.edit.specs.Outcome.{Outcome, edit_verdict, fresh, refused, outcome_of, edit_answer, buffer_after}
 use Rattle.edit.specs.After.{read_after}
 use Rattle.edit.proofs.Outcomes.{outcome_is}
@@ -48,7 +48,7 @@ use Rattle.edit.proofs.Keeping.{same_bytes, same_kind, pair_head}
 use Rattle.edit.proofs.Rereading.{Ends, tail_single, extender_at, new_long, aligned_is, list_new, reads_new, tail_new}
 
 -- an edit that is done is not denied
-pub denied_never {ℓ} : {A : Type ℓ} {r : Refusal} {n : NewFile} → Denied r ≡ Done n → A
+pub denied_never {ℓ} : {A : Type ℓ} {r : Refusal} {n : NewFile} → Err r ≡ Ok n → A
 denied_never e = let z : ◌≡◌ {A = ℕ} 0 1 = cc in absurd (omega arith)
 
 -- ---- the fresh file
@@ -79,7 +79,7 @@ pub record Renewed (f g : List ℕ) (xs : List (List ℕ)) : Type 0 where
   pub aligned : (reading_of g).header.aligned ≡ aligned_after (reading_of f).header.kind (reading_of f).header.aligned
 
 module _ (f : List ℕ) (room : ℕ) (change : Change) (code : ℤ) (p : List ℕ) (fits : SFits w32 code)
-    (go : change_verdict f room change code p ≡ Accepted) where
+    (go : change_verdict f room change code p ≡ no_refusal) where
   abbrev xs : List (List ℕ)
   xs = edited_list f change code p
 
@@ -176,7 +176,7 @@ pub record Carried (l : List ℕ) (len : ℕ) (change : Change) (code : ℤ) (p 
   pub aligned : new.aligned ≡ (reading_of (take new.length b)).header.aligned
   pub renewed : Renewed (take len l) (take new.length b) (edited_list (take len l) change code p)
 
-done_is : (o : Outcome) (new : NewFile) → edit_answer o ≡ Done new
+done_is : (o : Outcome) (new : NewFile) → edit_answer o ≡ Ok new
     → (g : List ℕ) × (o ≡ fresh g) × (length g ≡ new.length) × (aligned_file g ≡ new.aligned)
 done_is (fresh g) new e =
     let n : record { length = length g; aligned = aligned_file g } ≡ new = cc in
@@ -186,12 +186,12 @@ done_is (refused r) new e = denied_never e
 pub fresh_never {ℓ} : {A : Type ℓ} {r : Refusal} {g : List ℕ} → refused r ≡ fresh g → A
 fresh_never e = let z : ◌≡◌ {A = ℕ} 0 1 = cc in absurd (omega arith)
 
-inside_by : (room len : ℕ) → Clear (row 24 (ltb room len) 0 ∷ []) → len ≤ room
+inside_by : (room len : ℕ) → Clear (row LengthAboveBuffer (ltb room len) 0 ∷ []) → len ≤ room
 inside_by room len (one r none) = ltb-false room len r
 
 -- every append, replacement or removal "that the table doesn't refuse", a code being any that fits 32 bits
 pub edit_carried : (l : List ℕ) (len : ℕ) (change : Change) (code : ℤ) (p : List ℕ) (new : NewFile) → SFits w32 code
-    → edit_answer (outcome_of l len change code p) ≡ Done new
+    → edit_answer (outcome_of l len change code p) ≡ Ok new
     → Carried l len change code p new (buffer_after l len (outcome_of l len change code p))
 unfolding outcome_of
 edit_carried l len change code p new fits e =
@@ -199,8 +199,8 @@ edit_carried l len change code p new fits e =
     let g = fresh_of f change code p in
     let d = done_is (outcome_of l len change code p) new e in
     let v = decided_accepted (edit_verdict l len change code p) (λ r. fresh_never) d.1 in
-    let first = decided_accepted (verdict (row 24 (ltb (length l) len) 0 ∷ [])) (λ r. refused_never) v.0 in
-    let inside = inside_by (length l) len (accepted_clear (row 24 (ltb (length l) len) 0 ∷ []) first.0) in
+    let first = decided_accepted (verdict (row LengthAboveBuffer (ltb (length l) len) 0 ∷ [])) (λ r. refused_never) v.0 in
+    let inside = inside_by (length l) len (accepted_clear (row LengthAboveBuffer (ltb (length l) len) 0 ∷ []) first.0) in
     let same : d.0 ≡ g = cc v.1 in
     let n : length g ≡ new.length = ap length (sym same) ∙ d.2 in
     let w : buffer_after l len (outcome_of l len change code p) ≡ settled l len g = ap (buffer_after l len) (d.1 ∙ ap fresh same) in
@@ -219,7 +219,7 @@ edit_carried l len change code p new fits e =
     }
 
 -- a refusal "leaves all lent buffers as they stood"
-pub denied_keeps : (l : List ℕ) (len : ℕ) (o : Outcome) (r : Refusal) → edit_answer o ≡ Denied r → buffer_after l len o ≡ l
+pub denied_keeps : (l : List ℕ) (len : ℕ) (o : Outcome) (r : Refusal) → edit_answer o ≡ Err r → buffer_after l len o ≡ l
 denied_keeps l len (fresh g) r e = denied_never (sym e)
 denied_keeps l len (refused q) r e = refl
 
@@ -227,7 +227,7 @@ denied_keeps l len (refused q) r e = refl
 
 -- neither 21 nor 22 refuses a removal
 pub removal_clear : (f : List ℕ) (room k : ℕ) (code : ℤ) (p : List ℕ) → IsAccepted f → length f ≤ room → k < count_of f
-    → verdict (change_rows f room (Remove k) code p) ≡ Accepted
+    → verdict (change_rows f room (Remove k) code p) ≡ no_refusal
 removal_clear f room k code p a h b =
     let ss = (accepted_file f a).list in
     let file = (accepted_file f a).file in

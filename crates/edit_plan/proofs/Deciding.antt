@@ -1,4 +1,6 @@
 -- What each rule of an edit decides, by the numbers that the code compares: one law for each answer of `plan_list`.
+use Rattle.refusal.specs.declared.Rule.TheVariants.{NoSuchExtension, NegativeCodeOffered, PrivateBytes, ListTooLong, ShortBuffer}
+use Rattle.std.specs.Prelude.{Ok, Err, Result}
 use Prim.Native.Nat.{ℕ, ◌+◌, ◌-◌, ◌≤◌, ◌<◌, min, max}
 use mathlib.Core.Path.{◌≡◌, sym, ap, ◌∙◌}
 use mathlib.Core.Bool.{Bool, true, false, ◌||◌}
@@ -9,12 +11,12 @@ use lib.Dec.{ltb}
 use lib.IntN.{ℤ}
 use lib.ListN.{length}
 use mir.Syntax.{w32}
-use mir.Val.{SFits}
+use mir.Val.{SFits, to_z, of_z}
+use mir.ValLaws.{to_z-of_z}
 use Rattle.field.specs.declared.Order.{Order}
 use Rattle.field.specs.Numbers.{joined}
 use Rattle.refusal.specs.declared.Refusal.{Refusal}
-use Rattle.refusal.specs.declared.Verdict.TheVariants.{Accepted}
-use Rattle.refusal.specs.Table.{refusal, verdict}
+use Rattle.refusal.specs.Table.{refusal, verdict, no_refusal}
 use Rattle.refusal.proofs.Rows as rows
 use Rattle.refusal.proofs.Rows.{Clear, accepted_clear, decided_accepted, refused_never}
 use Rattle.offset.specs.Offset.{offset_limit}
@@ -28,7 +30,6 @@ use Rattle.layout.specs.File.{order_of, end_of}
 use Rattle.reader.specs.Reading.{reading_of, IsAccepted}
 use Rattle.reader.proofs.File.{AcceptedFile, accepted_file}
 use Rattle.outline.specs.declared.Outline.{Outline}
-use Rattle.outline.specs.declared.Outlined.TheVariants.{Shown, Hidden}
 use Rattle.outline.specs.Outline.{outline_of}
 use Rattle.outline.proofs.Outlines.{hidden_reading, Shows, shows, shown_accepted}
 use Rattle.change.specs.declared.Change.{Change}
@@ -36,8 +37,6 @@ use Rattle.change.specs.declared.Change.TheVariants.{Append, Replace, Remove}
 use Rattle.change.specs.declared.Slot.{Slot}
 use Rattle.change.specs.Change.{missing_in, offers_negative, enters_bytes, too_many, named_by, slot_of, new_size, size_cap}
 use Rattle.edit_plan.specs.declared.Plan.{Plan}
-use Rattle.edit_plan.specs.declared.Planned.{Planned}
-use Rattle.edit_plan.specs.declared.Planned.TheVariants.{Go, Stop}
 use Rattle.edit_plan.specs.Fresh.{extension_list, out_from, out_to, brought_in, edited_list, end_for, fresh_of}
 use Rattle.edit_plan.specs.Refusals.{enters_private, too_much, change_rows, change_verdict}
 use Rattle.edit_plan.specs.Planned.{bytes_before, bytes_out, aligned_after, plan_of, planned_of}
@@ -47,45 +46,45 @@ use Rattle.edit_plan.proofs.Exchanging.{complete_exchange}
 use Rattle.edit_plan.proofs.Planning.{count_of, region_to, length_new, slot_is, enters_is, cut_by, end_new, whole_new, much_is}
 
 -- a plan is not a refusal
-pub stop_never {ℓ} : {A : Type ℓ} {r : Refusal} {x : Plan} → Stop r ≡ Go x → A
+pub stop_never {ℓ} : {A : Type ℓ} {r : Refusal} {x : Plan} → Err r ≡ Ok x → A
 stop_never e = let z : ◌≡◌ {A = ℕ} 0 1 = cc in absurd (omega arith)
 
 -- ---- the table, row by row
 
 module _ (f : List ℕ) (room : ℕ) (change : Change) (code : ℤ) (p : List ℕ) where
-  abbrev Answers : Planned → Type 0
+  abbrev Answers : Result Plan Refusal → Type 0
   Answers x = x ≡ planned_of f room change code p
 
-  pub stops_unread : (q : Refusal) → outline_of (named_by change) f ≡ Hidden q → Answers (Stop q)
+  pub stops_unread : (q : Refusal) → outline_of (named_by change) f ≡ Err q → Answers (Err q)
   unfolding planned_of change_verdict
   stops_unread q e = rw (hidden_reading f (named_by change) q e)
 
   module _ (accepted : IsAccepted f) where
-    stops_18 : missing_in change (length (extension_list f)) ≡ true → Answers (Stop (refusal 18 0))
+    stops_18 : missing_in change (length (extension_list f)) ≡ true → Answers (Err (refusal NoSuchExtension 0))
     unfolding planned_of change_verdict verdict
     stops_18 m = simp (accepted, m)
 
     module _ (m : missing_in change (length (extension_list f)) ≡ false) where
-      stops_19 : offers_negative change code ≡ true → Answers (Stop (refusal 19 0))
+      stops_19 : offers_negative change code ≡ true → Answers (Err (refusal NegativeCodeOffered 0))
       unfolding planned_of change_verdict verdict
       stops_19 n = simp (accepted, m, n)
 
       module _ (n : offers_negative change code ≡ false) where
-        stops_20 : enters_private change f ≡ true → Answers (Stop (refusal 20 0))
+        stops_20 : enters_private change f ≡ true → Answers (Err (refusal PrivateBytes 0))
         unfolding planned_of change_verdict verdict
         stops_20 e = simp (accepted, m, n, e)
 
         module _ (e : enters_private change f ≡ false) where
-          stops_21 : too_much (edited_list f change code p) ≡ true → Answers (Stop (refusal 21 0))
+          stops_21 : too_much (edited_list f change code p) ≡ true → Answers (Err (refusal ListTooLong 0))
           unfolding planned_of change_verdict verdict
           stops_21 t = simp (accepted, m, n, e, t)
 
           module _ (t : too_much (edited_list f change code p) ≡ false) where
-            stops_22 : ltb room (length (fresh_of f change code p)) ≡ true → Answers (Stop (refusal 22 0))
+            stops_22 : ltb room (length (fresh_of f change code p)) ≡ true → Answers (Err (refusal ShortBuffer 0))
             unfolding planned_of change_verdict verdict
             stops_22 l = simp (accepted, m, n, e, t, l)
 
-            goes : ltb room (length (fresh_of f change code p)) ≡ false → Answers (Go (plan_of f change code p))
+            goes : ltb room (length (fresh_of f change code p)) ≡ false → Answers (Ok (plan_of f change code p))
             unfolding planned_of change_verdict verdict
             goes l = simp (accepted, m, n, e, t, l)
 
@@ -124,7 +123,7 @@ pub record Numbers (f : List ℕ) (change : Change) (p : List ℕ) (end at old n
   pub old_is : old ≡ bytes_out f change
   pub new_is : new ≡ min (new_size change (length p)) size_cap
 
-module _ (f : List ℕ) (room : ℕ) (change : Change) (code : ℤ) (p : List ℕ) (o : Outline) (e : outline_of (named_by change) f ≡ Shown o) where
+module _ (f : List ℕ) (room : ℕ) (change : Change) (code : ℤ) (p : List ℕ) (o : Outline) (e : outline_of (named_by change) f ≡ Ok o) where
   abbrev shown : Shows f (named_by change) o
   shown = shows f (named_by change) o e
 
@@ -150,15 +149,15 @@ module _ (f : List ℕ) (room : ℕ) (change : Change) (code : ℤ) (p : List �
   enters : enters_bytes change o.count region_in ≡ enters_private change f
   enters = rw (← shown.counted, base_is) (enters_is f ss file change)
 
-  pub on_18 : missing_in change o.count ≡ true → Stop (refusal 18 0) ≡ planned_of f room change code p
+  pub on_18 : missing_in change o.count ≡ true → Err (refusal NoSuchExtension 0) ≡ planned_of f room change code p
   on_18 m = stops_18 f room change code p accepted (rw count_is at m)
 
   module _ (m : missing_in change o.count ≡ false) where
-    pub on_19 : offers_negative change code ≡ true → Stop (refusal 19 0) ≡ planned_of f room change code p
+    pub on_19 : offers_negative change code ≡ true → Err (refusal NegativeCodeOffered 0) ≡ planned_of f room change code p
     on_19 n = stops_19 f room change code p accepted (rw count_is at m) n
 
     module _ (n : offers_negative change code ≡ false) where
-      pub on_20 : enters_bytes change o.count region_in ≡ true → Stop (refusal 20 0) ≡ planned_of f room change code p
+      pub on_20 : enters_bytes change o.count region_in ≡ true → Err (refusal PrivateBytes 0) ≡ planned_of f room change code p
       on_20 b = stops_20 f room change code p accepted (rw count_is at m) n (sym enters ∙ b)
 
       pub past : enters_bytes change o.count region_in ≡ false → Past f change code
@@ -183,7 +182,7 @@ module _ (f : List ℕ) (room : ℕ) (change : Change) (code : ℤ) (p : List �
     much : much_by ≡ too_much (edited_list f change code p)
     much = rw (count_is, v.end_is, v.old_is, v.new_is) (much_is f change k.present k.cut code p k.few)
 
-    pub on_21 : much_by ≡ true → Stop (refusal 21 0) ≡ planned_of f room change code p
+    pub on_21 : much_by ≡ true → Err (refusal ListTooLong 0) ≡ planned_of f room change code p
     on_21 t = stops_21 f room change code p accepted k.present k.offered k.entered (sym much ∙ t)
 
     module _ (t : much_by ≡ false) where
@@ -196,13 +195,13 @@ module _ (f : List ℕ) (room : ℕ) (change : Change) (code : ℤ) (p : List �
       whole : length (fresh_of f change code p) ≡ max (length f) first_place - old + new
       whole = rw (v.old_is, new_whole) (whole_new f change k.present k.cut code p k.long)
 
-      pub on_22 : room < max (length f) first_place - old + new → Stop (refusal 22 0) ≡ planned_of f room change code p
+      pub on_22 : room < max (length f) first_place - old + new → Err (refusal ShortBuffer 0) ≡ planned_of f room change code p
       on_22 l =
           stops_22 f room change code p accepted k.present k.offered k.entered (sym much ∙ t)
           (rw whole (lt-ltb room (max (length f) first_place - old + new) l))
 
       pub on_go : max (length f) first_place - old + new ≤ room
-          → Go (record {
+          → Ok (record {
             order = o.layout.order;
             kind = o.layout.kind;
             at = at;
@@ -219,7 +218,7 @@ module _ (f : List ℕ) (room : ℕ) (change : Change) (code : ℤ) (p : List �
           let x : end - old + new ≡ end_for (edited_list f change code p) =
           rw (v.end_is, v.old_is, new_whole) (sym (end_new f change k.present k.cut code p)) in
           (λ i.
-          Go (record {
+          Ok (record {
             order = (d i).order;
             kind = (d i).kind;
             at = v.at_is i;
@@ -230,6 +229,19 @@ module _ (f : List ℕ) (room : ℕ) (change : Change) (code : ℤ) (p : List �
           }))
           ∙ goes f room change code p accepted k.present k.offered k.entered (sym much ∙ t)
           (rw whole (le-ltb room (max (length f) first_place - old + new) l))
+
+-- what the code has past rules 18 to 20, by the answers of its calls
+pub known : {f : List ℕ} {change : Change} {code : ℤ} {p : List ℕ} {o : Outline} {m n b : Bool} {region end new : ℕ} {s : Slot}
+    → SFits w32 code → outline_of (named_by change) f ≡ Ok o → m ≡ missing_in change o.count → m ≡ false
+    → n ≡ offers_negative change (to_z w32 (of_z w32 code)) → n ≡ false
+    → region ≡ region_end o.layout.kind o.layout.image (length f) → end ≡ max region first_place
+    → b ≡ enters_bytes change o.count end → b ≡ false → s ≡ slot_of change o.span end → new ≡ min (new_size change (length p)) size_cap
+    → Past f change code × Numbers f change p end s.at s.old new
+known {f} {change} {code} {p} {o} {end = end} {new = new} {s = s} fits e em m en n er ee eb b es ex =
+    let q = to_z-of_z w32 code fits in
+    let inside = ee ∙ ap (λ (r : ℕ). max r first_place) er in
+    let k = past f 0 change code p o e (sym em ∙ m) (rw q at (sym en ∙ n)) (rw inside at (sym eb ∙ b)) in
+    (k, numbers f 0 change code p o e k end new s inside es ex)
 
 -- ---- an edit that goes ahead
 
@@ -257,13 +269,13 @@ module _ (f : List ℕ) (room : ℕ) (change : Change) (code : ℤ) (p : List �
         fits = ltb-false room (length (fresh_of f change code p)) l;
       }
 
-  pub allowed : change_verdict f room change code p ≡ Accepted → Allowed f room change code p
+  pub allowed : change_verdict f room change code p ≡ no_refusal → Allowed f room change code p
   unfolding change_verdict
   allowed e =
       let b = decided_accepted (reading_of f).verdict (λ r. refused_never) e in
       allowed_clear b.0 (accepted_clear (change_rows f room change code p) b.1)
 
-  pub planned : (x : Plan) → planned_of f room change code p ≡ Go x → (change_verdict f room change code p ≡ Accepted) × (plan_of f change code p ≡ x)
+  pub planned : (x : Plan) → planned_of f room change code p ≡ Ok x → (change_verdict f room change code p ≡ no_refusal) × (plan_of f change code p ≡ x)
   unfolding planned_of
   planned x e = let d = decided_accepted (change_verdict f room change code p) (λ r. stop_never) e in (d.0, cc d.1)
 

@@ -1,6 +1,7 @@
 -- What is known of an edit before the first byte is stored: its refusal, or the numbers that it is carried out by. The promises
 -- of append, replace and remove do not speak of these; they are the promises of the steps between.
-use Rattle.std.specs.Prelude.{ℕ, ◌+◌, ◌-◌, Bool, true, List, ℤ, length, take}
+use Rattle.refusal.specs.declared.Refusal.{Refusal}
+use Rattle.std.specs.Prelude.{ℕ, ◌+◌, ◌-◌, Bool, true, List, ℤ, length, take, Ok, Err, Result}
 use Rattle.field.specs.Numbers.{joined}
 use Rattle.refusal.specs.Table.{decided}
 use Rattle.extension.specs.Walk.{first_place}
@@ -9,8 +10,6 @@ use Rattle.header.specs.declared.Kind.TheVariants.{Single, Pair}
 use Rattle.layout.specs.File.{order_of, kind_of, aligned_file}
 use Rattle.change.specs.declared.Change.{Change}
 use Rattle.edit_plan.specs.declared.Plan.{Plan}
-use Rattle.edit_plan.specs.declared.Planned.{Planned}
-use Rattle.edit_plan.specs.declared.Planned.TheVariants.{Go, Stop}
 use Rattle.edit_plan.specs.Fresh.{extension_list, out_from, out_to, brought_in, edited_list, end_for}
 use Rattle.edit_plan.specs.Refusals.{change_verdict}
 
@@ -42,5 +41,5 @@ plan_of f change code p =
       aligned = aligned_after (kind_of f) (aligned_file f);
     }
 
-unfoldable pub planned_of : List ℕ → ℕ → Change → ℤ → List ℕ → Planned
-planned_of f room change code p = decided (change_verdict f room change code p) (Go (plan_of f change code p)) Stop
+unfoldable pub planned_of : List ℕ → ℕ → Change → ℤ → List ℕ → Result Plan Refusal
+planned_of f room change code p = decided (change_verdict f room change code p) (Ok (plan_of f change code p)) Err

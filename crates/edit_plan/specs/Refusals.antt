@@ -1,8 +1,8 @@
 -- Whether an edit is refused: rules 18 to 22 in the table's order, after reading's own (01-scope.md, "Refusal numbers" and
 -- "Extensions"). f is the old file everywhere.
+use Rattle.refusal.specs.declared.Rule.TheVariants.{NoSuchExtension, NegativeCodeOffered, PrivateBytes, ListTooLong, ShortBuffer}
 use Rattle.std.specs.Prelude.{ℕ, Bool, false, not, ◌&&◌, ◌||◌, List, [], ◌∷◌, ltb, ℤ, length}
-use Rattle.refusal.specs.declared.Verdict.{Verdict}
-use Rattle.refusal.specs.Table.{Row, row, verdict, then}
+use Rattle.refusal.specs.Table.{Row, row, verdict, then, Verdict}
 use Rattle.offset.specs.Offset.{offset_limit}
 use Rattle.extension.specs.Walk.{extension_limit, first_place}
 use Rattle.layout.specs.File.{has_extensions, end_of}
@@ -28,11 +28,11 @@ too_much xs = ltb extension_limit (length xs) || ltb offset_limit (end_for xs)
 -- rules 18 to 22, for a buffer of `room` bytes; 22: "the result is longer than the buffer"
 abbrev pub change_rows : List ℕ → ℕ → Change → ℤ → List ℕ → List Row
 change_rows f room change code p =
-    row 18 (missing_in change (length (extension_list f))) 0
-    ∷ row 19 (offers_negative change code) 0
-    ∷ row 20 (enters_private change f) 0
-    ∷ row 21 (too_much (edited_list f change code p)) 0
-    ∷ row 22 (ltb room (length (fresh_of f change code p))) 0
+    row NoSuchExtension (missing_in change (length (extension_list f))) 0
+    ∷ row NegativeCodeOffered (offers_negative change code) 0
+    ∷ row PrivateBytes (enters_private change f) 0
+    ∷ row ListTooLong (too_much (edited_list f change code p)) 0
+    ∷ row ShortBuffer (ltb room (length (fresh_of f change code p))) 0
     ∷ []
 
 -- "Checks run in number order": reading's 1 to 15 of the old file, then the edit's own

@@ -2,7 +2,7 @@
 // rules 18 to 22). Nothing is stored here: an edit is judged whole before its first byte is.
 #![tactic(auto)]
 
-ghost use Rattle.std.specs.Prelude.{◌≡◌};
+ghost use Rattle.std.specs.Prelude.{◌≡◌, Ok, Err};
 ghost use Rattle.refusal.specs.Table.{refusal};
 ghost use Rattle.outline.specs.Outline.{outline_of};
 ghost use Rattle.change.specs.Change.{named_by};
@@ -12,8 +12,8 @@ use change::Change;
 use extension::FIRST;
 use field::Order;
 use header::Kind;
-use outline::{Outline, Outlined};
-use refusal::Refusal;
+use outline::Outline;
+use refusal::{Refusal, Rule};
 
 // What an edit is carried out by: at the place `at`, `old` bytes go out and `new` bytes come in, and the region of the
 // extensions then ends at `end`. `aligned` is said of the new file's voxel offset (02-change-requests.md, P6).
@@ -26,18 +26,6 @@ pub struct Plan {
     pub new: usize,
     pub end: usize,
     pub aligned: bool,
-}
-
-#[derive(Clone, Copy)]
-pub enum Planned {
-    Go(Plan),
-    Stop(Refusal),
-}
-
-fn stop(number: u64) -> Planned
-    ensures { result ≡ Planned.Stop (refusal number 0) }
-{
-    Planned::Stop(Refusal { number, place: 0 })
 }
 
 // Whether the new file's voxel offset is aligned. A single file's is 352 plus a multiple of 16; a pair's stays as it was.
@@ -59,55 +47,52 @@ fn plan_list(
     change: Change,
     code: i32,
     payload: &[u8],
-) -> Planned
-    requires { outline_of (named_by change) file.now ≡ Outlined.Shown outline }
+) -> Result<Plan, Refusal>
+    requires { outline_of (named_by change) file.now ≡ Ok outline }
     ensures { result ≡ planned_of file.now room change code payload.now }
 {
     let layout = outline.layout;
-    let order = layout.order;
-    let kind = layout.kind;
-    let image = layout.image;
     let count = outline.count;
-    let span = outline.span;
-    let end = number::greater(bounds::region_end(kind, image, file.len()), FIRST);
+    let end = bounds::region_end(layout.kind, layout.image, file.len()).max(FIRST);
     if change::is_missing(change, count) {
-        return stop(18);
+        return Err(Rule::NoSuchExtension.at(0));
     }
     if change::offers_negative(change, code) {
-        return stop(19);
+        return Err(Rule::NegativeCodeOffered.at(0));
     }
     if change::enters_bytes(change, count, end) {
-        return stop(20);
+        return Err(Rule::PrivateBytes.at(0));
     }
-    let out = change::slot_for(change, span, end);
-    let at = out.at;
-    let old = out.old;
+    let out = change::slot_for(change, outline.span, end);
     let new = change::new_size(change, payload.len());
-    let next = end - old + new;
+    let next = end - out.old + new;
     if change::is_too_many(change, count) | (offset::LIMIT < next as u64) {
-        return stop(21);
+        return Err(Rule::ListTooLong.at(0));
     }
-    if room < number::greater(file.len(), FIRST) - old + new {
-        return stop(22);
+    if room < file.len().max(FIRST) - out.old + new {
+        return Err(Rule::ShortBuffer.at(0));
     }
-    Planned::Go(Plan {
-        order,
-        kind,
-        at,
-        old,
+    Ok(Plan {
+        order: layout.order,
+        kind: layout.kind,
+        at: out.at,
+        old: out.old,
         new,
         end: next,
-        aligned: aligned_after(kind, layout.aligned),
+        aligned: aligned_after(layout.kind, layout.aligned),
     })
 }
 
 // Reading's rules, and then those of the edit. Of the extensions only the one that the edit names is asked for.
-pub fn plan_edit(file: &[u8], room: usize, change: Change, code: i32, payload: &[u8]) -> Planned
+pub fn plan_edit(
+    file: &[u8],
+    room: usize,
+    change: Change,
+    code: i32,
+    payload: &[u8],
+) -> Result<Plan, Refusal>
     ensures { result ≡ planned_of file.now room change code payload.now }
 {
-    let outlined = outline::outline_of(file, change::number_of(change));
-    match outlined {
-        Outlined::Hidden(r) => Planned::Stop(r),
-        Outlined::Shown(o) => plan_list(file, o, room, change, code, payload),
-    }
+    let outline = outline::outline_of(file, change::number_of(change))?;
+    plan_list(file, outline, room, change, code, payload)
 }

@@ -24,8 +24,8 @@ fn put_extension(buf: &mut [u8], at: usize, order: Order, code: i32, payload: &[
 {
     let n = payload.len();
     let size = change::size_for(n);
-    store::put_u32(buf, at, order, size as u32);
-    store::put_i32(buf, at + 4, order, code);
+    store::put(buf, at, order, size as u32);
+    store::put(buf, at + 4, order, code);
     buffer::copy_in(buf, at + 8, payload);
     buffer::clear(buf, at + 8 + n, size - (n + 8));
 }
@@ -37,8 +37,7 @@ pub fn put_new(buf: &mut [u8], at: usize, order: Order, change: Change, code: i3
     ensures { buf.new ≡ put buf.old at (joined (brought_in order change code payload.now)) }
 {
     match change {
-        Change::Append => put_extension(buf, at, order, code, payload),
-        Change::Replace(_) => put_extension(buf, at, order, code, payload),
+        Change::Append | Change::Replace(_) => put_extension(buf, at, order, code, payload),
         Change::Remove(_) => {}
     }
 }
@@ -68,7 +67,7 @@ pub fn put_offset(buf: &mut [u8], kind: Kind, order: Order, end: usize)
     ensures { buf.new ≡ head_for kind order end buf.old }
 {
     match kind {
-        Kind::Single => store::put_u32(buf, 108, order, offset::encode(end as u32)),
+        Kind::Single => store::put(buf, 108, order, offset::encode(end as u32)),
         Kind::Pair => {}
     }
 }

@@ -1,4 +1,6 @@
 -- Demand 3 as one theorem, `demand_three`: for append, replacement and removal, a single file and a pair, in either byte order.
+use Rattle.refusal.specs.declared.Rule.TheVariants.{ImageCut, IndexOutside}
+use Rattle.std.specs.Prelude.{Ok, Err}
 use Prim.Native.Nat.{ℕ, ◌+◌, ◌*◌, ◌≤◌}
 use mathlib.Core.Path.{◌≡◌, refl, ap, sym, ◌∙◌}
 use mathlib.Core.Bool.{not}
@@ -9,9 +11,7 @@ use lib.ListN.{length, take, drop}
 use lib.Seq.{drop-drop}
 use mir.Syntax.{w32}
 use mir.Val.{SFits}
-use Rattle.refusal.specs.declared.Verdict.{Verdict}
-use Rattle.refusal.specs.declared.Verdict.TheVariants.{Accepted, Refused}
-use Rattle.refusal.specs.Table.{row, verdict, decided}
+use Rattle.refusal.specs.Table.{row, verdict, decided, Verdict}
 use Rattle.grid.specs.Grid.{within, voxel_number}
 use Rattle.header.specs.declared.Kind.{Kind}
 use Rattle.header.specs.declared.Kind.TheVariants.{Single, Pair}
@@ -23,14 +23,12 @@ use Rattle.reader.specs.Reading.{reading_of, IsAccepted}
 use Rattle.reader.proofs.File.{record_image}
 use Rattle.buffer.specs.Settled.{settled}
 use Rattle.voxel.specs.declared.Extent.{Extent}
-use Rattle.voxel.specs.declared.Located.TheVariants.{At, Unlocated}
 use Rattle.voxel.specs.Voxel.{lengths_of, voxel_bytes, image_rows}
 use Rattle.by_file.specs.Files.{located_of}
 use Rattle.by_file.proofs.Voxels.{accepted_located, voxel_bytes_are}
 use Rattle.change.specs.declared.Change.{Change}
 use Rattle.edit_plan.specs.Fresh.{extension_list, edited_list, extender_for, end_for, fresh_of}
 use Rattle.edit.specs.declared.NewFile.{NewFile}
-use Rattle.edit.specs.declared.Edited.TheVariants.{Done}
 use Rattle.edit.specs.Outcome.{outcome_of, edit_answer, buffer_after}
 use Rattle.edit.specs.After.{anew_in, read_after}
 use Rattle.edit.proofs.Theorems.{Moved, Renewed, edit_carried}
@@ -85,7 +83,7 @@ module _ (f g : List ℕ) (xs : List (List ℕ)) (a : IsAccepted f) (r : Renewed
         (λ i. image_cut (kind_same i) (length image) (record_image g r.accepted i))
         ∙ cut_same kind (length image) (reading_of f).image (reading_of g).image pair_offset image_bytes_lem
         ∙ sym (ap (image_cut kind (length image)) (record_image f a)) in
-        λ i. verdict (row 16 (cut i) 0 ∷ row 17 (not (within (lengths_same i) index)) 0 ∷ [])
+        λ i. verdict (row ImageCut (cut i) 0 ∷ row IndexOutside (not (within (lengths_same i) index)) 0 ∷ [])
 
     -- the voxel's place in each file, by where the image begins
     abbrev behind : ℕ
@@ -94,27 +92,27 @@ module _ (f g : List ℕ) (xs : List (List ℕ)) (a : IsAccepted f) (r : Renewed
     abbrev extent_at : ℕ → Extent
     extent_at offset = record { place = offset + behind; length = voxel_bytes (reading_of f).header }
 
-    located_old : located_of f image index ≡ decided decides (At (extent_at old)) Unlocated
-    located_old = accepted_located f image index a ∙ (λ i. decided decides (At (extent_at (record_image f a i).offset)) Unlocated)
+    located_old : located_of f image index ≡ decided decides (Ok (extent_at old)) Err
+    located_old = accepted_located f image index a ∙ (λ i. decided decides (Ok (extent_at (record_image f a i).offset)) Err)
 
-    located_new : located_of g image index ≡ decided decides (At (extent_at new)) Unlocated
+    located_new : located_of g image index ≡ decided decides (Ok (extent_at new)) Err
     located_new =
         accepted_located g image index r.accepted
         ∙ (λ i.
         let e : Extent =
         record { place = (record_image g r.accepted i).offset + bytes_same i * voxel_number (lengths_same i) index; length = bytes_same i } in
-        decided (rows_same i) (At e) Unlocated)
+        decided (rows_same i) (Ok e) Err)
 
     -- the same answer in a pair
     pub pair_located : kind ≡ Pair → located_of g image index ≡ located_of f image index
-    pair_located k = located_new ∙ ap (λ (n : ℕ). decided decides (At (extent_at n)) Unlocated) (pair_offset k) ∙ sym located_old
+    pair_located k = located_new ∙ ap (λ (n : ℕ). decided decides (Ok (extent_at n)) Err) (pair_offset k) ∙ sym located_old
 
     pub voxel_same : SameVoxel f g image index
     voxel_same = by decides located_old located_new
       where
-        by : (v : Verdict) → located_of f image index ≡ decided v (At (extent_at old)) Unlocated
-            → located_of g image index ≡ decided v (At (extent_at new)) Unlocated → SameVoxel f g image index
-        by Accepted before after =
+        by : (v : Verdict) → located_of f image index ≡ decided v (Ok (extent_at old)) Err
+            → located_of g image index ≡ decided v (Ok (extent_at new)) Err → SameVoxel f g image index
+        by (Ok tt) before after =
             let b = voxel_bytes_are f image index (extent_at old) before in
             let c = voxel_bytes_are g image index (extent_at new) after in
             let s : take (voxel_bytes (reading_of f).header) (drop (new + behind) (holder (reading_of g).header.kind g image))
@@ -131,7 +129,7 @@ module _ (f g : List ℕ) (xs : List (List ℕ)) (a : IsAccepted f) (r : Renewed
               bytes_after = c;
               moved = omega arith;
             })
-        by (Refused q) before after = refused q before after
+        by (Err q) before after = refused q before after
 
 -- Demand 3, in its order. The edit is of the file in the first len bytes of l; it answers `new` and leaves the buffer b.
 pub record DemandThree (l : List ℕ) (len : ℕ) (change : Change) (code : ℤ) (p : List ℕ) (new : NewFile) (b : List ℕ) : Type 0 where
@@ -162,7 +160,7 @@ pub record DemandThree (l : List ℕ) (len : ℕ) (change : Change) (code : ℤ)
 
 -- every append, replacement or removal "that the table doesn't refuse", a code being any that fits 32 bits
 pub demand_three : (l : List ℕ) (len : ℕ) (change : Change) (code : ℤ) (p : List ℕ) (new : NewFile) → SFits w32 code
-    → edit_answer (outcome_of l len change code p) ≡ Done new
+    → edit_answer (outcome_of l len change code p) ≡ Ok new
     → DemandThree l len change code p new (buffer_after l len (outcome_of l len change code p))
 demand_three l len change code p new fits e =
     let d = edit_carried l len change code p new fits e in

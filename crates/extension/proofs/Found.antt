@@ -1,4 +1,5 @@
 -- What `found_by` comes to at each outcome of its tests, and what holds where `found` finds an extension or the end.
+use Rattle.refusal.specs.declared.Rule.TheVariants.{WrongSize, NegativeCode, TooManyExtensions}
 use Prim.Native.Nat.{ℕ, ◌+◌, ◌<◌, ◌≤◌}
 use mathlib.Core.Path.{◌≡◌, refl}
 use mathlib.Core.Bool.{Bool, true, false, cond, not}
@@ -17,23 +18,23 @@ use Rattle.extension.specs.Walk.{extension_limit, size_rule, span, Found, extens
 use Rattle.extension.proofs.Signs.{Ruled, ruled, rule_short}
 
 module _ (before at n : ℕ) (size code : ℤ) where
-  pub found_none : n ≡ 0 → before ≡ 0 → found_by before at n size code ≡ refused (refusal 13 at)
+  pub found_none : n ≡ 0 → before ≡ 0 → found_by before at n size code ≡ refused (refusal WrongSize at)
   found_none e f = rw (eq-eqb n 0 e, eq-eqb before 0 f)
 
   pub found_ended : n ≡ 0 → (before ≡ 0 → ⊥) → found_by before at n size code ≡ ended
   found_ended e f = rw (eq-eqb n 0 e, ne_eqb before 0 f)
 
   module _ (some : 0 < n) where
-    pub found_limit : extension_limit ≤ before → found_by before at n size code ≡ refused (refusal 15 at)
+    pub found_limit : extension_limit ≤ before → found_by before at n size code ≡ refused (refusal TooManyExtensions at)
     unfolding verdict
     found_limit h = rw (ne_eqb n 0 (omega arith), le-leb extension_limit before h)
 
     module _ (more : before < extension_limit) where
-      pub found_size : size_rule size n ≡ false → found_by before at n size code ≡ refused (refusal 13 at)
+      pub found_size : size_rule size n ≡ false → found_by before at n size code ≡ refused (refusal WrongSize at)
       unfolding verdict
       found_size s = rw (ne_eqb n 0 (omega arith), lt-leb extension_limit before more, s)
 
-      pub found_code : size_rule size n ≡ true → lt_z code (pos 0) ≡ true → found_by before at n size code ≡ refused (refusal 14 (at + 4))
+      pub found_code : size_rule size n ≡ true → lt_z code (pos 0) ≡ true → found_by before at n size code ≡ refused (refusal NegativeCode (at + 4))
       unfolding verdict
       found_code s c = rw (ne_eqb n 0 (omega arith), lt-leb extension_limit before more, s, c)
 
@@ -44,8 +45,8 @@ module _ (before at n : ℕ) (size code : ℤ) where
 -- `found_by` with any answers to its five tests
 abbrev outcome : Bool → Bool → Bool → Bool → Bool → ℕ → Span → Found
 outcome t₁ t₂ t₃ t₄ t₅ p y =
-    cond t₁ (cond t₂ (refused (refusal 13 p)) ended)
-    (decided (verdict (row 15 t₃ p ∷ row 13 t₄ p ∷ row 14 t₅ (p + 4) ∷ [])) (extension y) refused)
+    cond t₁ (cond t₂ (refused (refusal WrongSize p)) ended)
+    (decided (verdict (row TooManyExtensions t₃ p ∷ row WrongSize t₄ p ∷ row NegativeCode t₅ (p + 4) ∷ [])) (extension y) refused)
 
 -- where the size rule is broken, nothing hangs on the code
 short_by : (t₁ t₂ t₃ t₅ s₅ : Bool) (p : ℕ) (y z : Span) → outcome t₁ t₂ t₃ true t₅ p y ≡ outcome t₁ t₂ t₃ true s₅ p z

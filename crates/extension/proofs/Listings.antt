@@ -1,10 +1,11 @@
 -- A listing, read back: which walk it is of. An accepted one's count is the length of the list.
+use Rattle.refusal.specs.Table.{no_refusal}
+use Rattle.std.specs.Prelude.{Err}
 use Prim.Native.Nat.{ℕ, zero, suc, ◌-◌}
 use mathlib.Core.Path.{◌≡◌, refl}
 use mathlib.Core.List.{List, [], ◌∷◌, ◌++◌}
 use lib.ListN.{length, get_or, replicate}
 use Rattle.refusal.specs.declared.Refusal.{Refusal}
-use Rattle.refusal.specs.declared.Verdict.TheVariants.{Accepted, Refused}
 use Rattle.extension.specs.declared.Span.{Span}
 use Rattle.extension.specs.declared.Listing.{Listing}
 use Rattle.extension.specs.Walk.{extension_limit, Walked, listed, stopped}
@@ -17,12 +18,12 @@ pub record Held (v : Walked) (l : Listing) : Type 0 where
   pub count : l.count ≡ length list
   pub spans : l.spans ≡ spans_of list
 
-pub listing_accepted : (v : Walked) (l : Listing) → l ≡ listing_of v → l.verdict ≡ Accepted → Held v l
+pub listing_accepted : (v : Walked) (l : Listing) → l ≡ listing_of v → l.verdict ≡ no_refusal → Held v l
 unfolding listing_of
 listing_accepted (listed xs) l e a = record { list = xs; walked = refl; count = cc; spans = cc }
 listing_accepted (stopped r) l e a = record { list = []; walked = cc; count = cc; spans = cc }
 
-pub listing_refused : (v : Walked) (l : Listing) (r : Refusal) → l ≡ listing_of v → l.verdict ≡ Refused r → v ≡ stopped r
+pub listing_refused : (v : Walked) (l : Listing) (r : Refusal) → l ≡ listing_of v → l.verdict ≡ Err r → v ≡ stopped r
 unfolding listing_of
 listing_refused (listed xs) l r e a = cc
 listing_refused (stopped q) l r e a = cc

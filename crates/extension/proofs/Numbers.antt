@@ -1,4 +1,6 @@
 -- The walk refuses by 13, 14 or 15 and by no other number.
+use Rattle.refusal.specs.declared.Rule.TheVariants.{WrongSize}
+use Rattle.std.specs.Prelude.{Ok, Err}
 use Prim.Native.Nat.{ℕ, zero, suc, ◌+◌}
 use mathlib.Core.Path.{◌≡◌, refl, sym}
 use mathlib.Core.Bool.{Bool, true, false, cond}
@@ -10,9 +12,7 @@ use lib.ListN.{length, drop}
 use Rattle.field.specs.declared.Order.{Order}
 use Rattle.field.specs.Numbers.{i32_at}
 use Rattle.refusal.specs.declared.Refusal.{Refusal}
-use Rattle.refusal.specs.declared.Verdict.{Verdict}
-use Rattle.refusal.specs.declared.Verdict.TheVariants.{Accepted, Refused}
-use Rattle.refusal.specs.Table.{refusal, verdict, decided}
+use Rattle.refusal.specs.Table.{refusal, verdict, decided, Verdict, number_of}
 use Rattle.refusal.proofs.Rows.{between, verdict_number}
 use Rattle.extension.specs.declared.Span.{Span}
 use Rattle.extension.specs.Walk.{extension_limit, extension_rows, first_place, rest_of, span_at, Found, extension, ended, refused, found}
@@ -28,14 +28,14 @@ extension_never e = let z : ◌≡◌ {A = ℕ} 0 1 = cc in absurd (omega arith)
 
 -- a refusal of the walk
 abbrev pub Walks : Refusal → Type 0
-Walks r = between 13 15 r.number ≡ true
+Walks r = between 13 15 (number_of r.rule) ≡ true
 
-found_by_lem : (t u : Bool) (at : ℕ) (v : Verdict) (x : Span) (r : Refusal) → ((q : Refusal) → v ≡ Refused q → Walks q)
-    → cond t (cond u (refused (refusal 13 at)) ended) (decided v (extension x) refused) ≡ refused r → Walks r
-found_by_lem true true at v x r k e = let s : refusal 13 at ≡ r = cc in rw (← s)
+found_by_lem : (t u : Bool) (at : ℕ) (v : Verdict) (x : Span) (r : Refusal) → ((q : Refusal) → v ≡ Err q → Walks q)
+    → cond t (cond u (refused (refusal WrongSize at)) ended) (decided v (extension x) refused) ≡ refused r → Walks r
+found_by_lem true true at v x r k e = let s : refusal WrongSize at ≡ r = cc in rw (← s)
 found_by_lem true false at v x r k e = ended_never e
-found_by_lem false u at Accepted x r k e = extension_never e
-found_by_lem false u at (Refused q) x r k e = let s : q ≡ r = cc in rw (← s) (k q refl)
+found_by_lem false u at (Ok tt) x r k e = extension_never e
+found_by_lem false u at (Err q) x r k e = let s : q ≡ r = cc in rw (← s) (k q refl)
 
 found_number : (order : Order) (n at : ℕ) (rest : List ℕ) (r : Refusal) → found order n at rest ≡ refused r → Walks r
 unfolding found

@@ -1,7 +1,7 @@
 -- The spans of a file's extensions as the record holds them. 01-scope.md: "A span is start, size and code; spans past the count
 -- are zeros. The record holds the eight dims and up to 64 extension spans."
-use Rattle.std.specs.Prelude.{◌-◌, List, [], ◌++◌, pos, length, replicate}
-use Rattle.refusal.specs.declared.Verdict.TheVariants.{Accepted, Refused}
+use Rattle.refusal.specs.Table.{no_refusal}
+use Rattle.std.specs.Prelude.{◌-◌, List, [], ◌++◌, pos, length, replicate, Err}
 use Rattle.extension.specs.declared.Span.{Span}
 use Rattle.extension.specs.declared.Listing.{Listing}
 use Rattle.extension.specs.Walk.{Walked, listed, stopped, extension_limit}
@@ -15,5 +15,5 @@ spans_of xs = xs ++ replicate (extension_limit - length xs) no_span
 
 -- a list read whole, with its length as the count; or the refusal beside no spans at all
 unfoldable pub listing_of : Walked → Listing
-listing_of (listed xs) = record { verdict = Accepted; count = length xs; spans = spans_of xs }
-listing_of (stopped r) = record { verdict = Refused r; count = 0; spans = spans_of [] }
+listing_of (listed xs) = record { verdict = no_refusal; count = length xs; spans = spans_of xs }
+listing_of (stopped r) = record { verdict = Err r; count = 0; spans = spans_of [] }

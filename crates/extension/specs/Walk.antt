@@ -1,5 +1,6 @@
 -- The extensions of a file: what stands at a place, and the whole list (01-scope.md, "Extensions", rules 13, 14 and 15).
-use Rattle.std.specs.Prelude.{ℕ, zero, suc, ◌+◌, ◌-◌, ◌%◌, Bool, not, cond, ◌&&◌, List, [], ◌∷◌, leb, eqb, ℤ, pos, nat_abs, length, take, drop}
+use Rattle.refusal.specs.declared.Rule.TheVariants.{WrongSize, NegativeCode, TooManyExtensions}
+use Rattle.std.specs.Prelude.{ℕ, zero, suc, ◌+◌, ◌-◌, ◌%◌, Bool, not, cond, ◌&&◌, List, [], ◌∷◌, leb, eqb, ℤ, pos, nat_abs, length, take, drop, Ok, Err, Some, None, Result, Option}
 use Rattle.std.specs.Int.Signed.{lt_z}
 use Rattle.field.specs.declared.Order.{Order}
 use Rattle.field.specs.Numbers.{i32_at}
@@ -7,8 +8,6 @@ use Rattle.refusal.specs.declared.Refusal.{Refusal}
 use Rattle.refusal.specs.Table.{Row, row, refusal, verdict, decided}
 use Rattle.extension.specs.declared.Span.{Span}
 use Rattle.extension.specs.declared.Walker.{Walker}
-use Rattle.extension.specs.declared.Step.{Step}
-use Rattle.extension.specs.declared.Step.TheVariants.{Extension, End, Halt}
 
 -- "up to 64 extension spans"; a 65th is rule 15
 abbrev pub extension_limit : ℕ
@@ -26,9 +25,9 @@ size_rule size left = leb 16 left && (lt_z (pos 0) size && (eqb (nat_abs size % 
 -- region, and they begin with a size and a code.
 abbrev pub extension_rows : ℕ → ℕ → ℕ → ℤ → ℤ → List Row
 extension_rows before at n size code =
-    row 15 (leb extension_limit before) at
-    ∷ row 13 (not (size_rule size n)) at
-    ∷ row 14 (lt_z code (pos 0)) (at + 4)
+    row TooManyExtensions (leb extension_limit before) at
+    ∷ row WrongSize (not (size_rule size n)) at
+    ∷ row NegativeCode (lt_z code (pos 0)) (at + 4)
     ∷ []
 
 -- a span is an extension's start, size and code
@@ -47,7 +46,7 @@ pub data Found : Type 0 where
 -- "at least one (an empty region gives 13 at 352)": the end is found only after an extension
 abbrev pub found_by : ℕ → ℕ → ℕ → ℤ → ℤ → Found
 found_by before at n size code =
-    cond (eqb n 0) (cond (eqb before 0) (refused (refusal 13 at)) ended)
+    cond (eqb n 0) (cond (eqb before 0) (refused (refusal WrongSize at)) ended)
     (decided (verdict (extension_rows before at n size code)) (extension (span at size code)) refused)
 
 -- of the region's `rest` only its length and its first two numbers count
@@ -62,12 +61,12 @@ rest_of file end at = drop at (take end file)
 abbrev pub past : Walker → Span → Walker
 past w x = record { order = w.order; end = w.end; at = w.at + nat_abs x.size; count = w.count + 1 }
 
-abbrev pub step_from : Walker → Found → Step
-step_from w (extension x) = Extension x (past w x)
-step_from w ended = End
-step_from w (refused r) = Halt r
+abbrev pub step_from : Walker → Found → Result (Option (Span × Walker)) Refusal
+step_from w (extension x) = Ok (Some (x, past w x))
+step_from w ended = Ok None
+step_from w (refused r) = Err r
 
-unfoldable pub step_of : List ℕ → Walker → Step
+unfoldable pub step_of : List ℕ → Walker → Result (Option (Span × Walker)) Refusal
 step_of file w = step_from w (found w.order w.count w.at (rest_of file w.end w.at))
 
 -- the list of a region's extensions, or the first refusal

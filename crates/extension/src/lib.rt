@@ -2,12 +2,12 @@
 // Payload bytes are not read. The crate listing lists them all.
 #![tactic(auto)]
 
-ghost use Rattle.std.specs.Prelude.{◌≡◌, ◌+◌, ◌<◌, ◌≤◌, length};
+ghost use Rattle.std.specs.Prelude.{◌≡◌, ◌+◌, ◌<◌, ◌≤◌, length, Err};
 ghost use Rattle.refusal.specs.Table.{refusal};
 ghost use Rattle.extension.specs.Walk.{size_rule, found_by, found, step_from, step_of, first_place};
 
-use field::Order;
-use refusal::{Refusal, Verdict};
+use field::{Number, Order};
+use refusal::{Refusal, Rule};
 
 // The most extensions a file may have, and where the first one begins.
 pub const LIMIT: usize = 64;
@@ -32,18 +32,10 @@ pub struct Walker {
     pub count: usize,
 }
 
-// What a step finds: an extension and the state after it, the region's end, or a refusal.
-#[derive(Clone, Copy)]
-pub enum Step {
-    Extension(Span, Walker),
-    End,
-    Halt(Refusal),
-}
-
 // A file's extensions: the first `count` spans, and zeros past them.
 #[derive(Clone, Copy)]
 pub struct Listing {
-    pub verdict: Verdict,
+    pub verdict: Result<(), Refusal>,
     pub count: usize,
     pub spans: [Span; LIMIT],
 }
@@ -65,13 +57,6 @@ fn size_rule(size: i32, left: usize) -> bool
     n <= left
 }
 
-// A refusal, by its number and place.
-fn halt(number: u64, place: usize) -> Step
-    ensures { result ≡ Step.Halt (refusal number place) }
-{
-    Step::Halt(Refusal { number, place })
-}
-
 impl Walker {
     // The state before the first extension of a region that ends at `end`.
     pub fn new(order: Order, end: usize) -> Self
@@ -87,7 +72,7 @@ impl Walker {
 
     // A step where n bytes are left of the region, with the size and the code that they begin with: the three refusals
     // in the order in which they are tried.
-    pub fn step_by(self, n: usize, size: i32, code: i32) -> Step
+    pub fn step_by(self, n: usize, size: i32, code: i32) -> Result<Option<(Span, Walker)>, Refusal>
         requires { self.at + n < 18446744073709551616 }
         ensures { result ≡ step_from self (found_by self.count self.at n size code) }
     {
@@ -96,19 +81,19 @@ impl Walker {
         let count = self.count;
         if n == 0 {
             if count == 0 {
-                return halt(13, self.at);
+                return Err(Rule::WrongSize.at(self.at));
             }
-            return Step::End;
+            return Ok(None);
         }
         let sized = size_rule(size, n);
         if LIMIT <= count {
-            return halt(15, at);
+            return Err(Rule::TooManyExtensions.at(at));
         }
         if !sized {
-            return halt(13, at);
+            return Err(Rule::WrongSize.at(at));
         }
         if code < 0 {
-            return halt(14, at + 4);
+            return Err(Rule::NegativeCode.at(at + 4));
         }
         let past = at + size as usize;
         let span = Span {
@@ -122,11 +107,11 @@ impl Walker {
             at: past,
             count: count + 1,
         };
-        Step::Extension(span, next)
+        Ok(Some((span, next)))
     }
 
     // A step where `rest` is what is left of the region.
-    fn step_over(self, rest: &[u8]) -> Step
+    fn step_over(self, rest: &[u8]) -> Result<Option<(Span, Walker)>, Refusal>
         requires { self.at + length rest.now < 18446744073709551616 }
         ensures { result ≡ step_from self (found self.order self.count self.at rest.now) }
     {
@@ -135,13 +120,13 @@ impl Walker {
             return self.step_by(rest.len(), 0, 0);
         }
         let order = self.order;
-        let size = field::read_i32(rest, 0, order);
-        let code = field::read_i32(rest, 4, order);
+        let size = i32::read(rest, 0, order);
+        let code = i32::read(rest, 4, order);
         self.step_by(rest.len(), size, code)
     }
 
     // The next extension of a file that has the whole region, with a state inside it.
-    pub fn step_within(self, file: &[u8]) -> Step
+    pub fn step_within(self, file: &[u8]) -> Result<Option<(Span, Walker)>, Refusal>
         requires { (self.at ≤ self.end) × (self.end ≤ length file.now) }
         ensures { result ≡ step_of file.now self }
     {
@@ -151,13 +136,11 @@ impl Walker {
     }
 
     // The next extension of a file, with the state after it. Any state will do: past the region's end nothing is left.
-    pub fn step(self, file: &[u8]) -> Step
+    pub fn step(self, file: &[u8]) -> Result<Option<(Span, Walker)>, Refusal>
         ensures { result ≡ step_of file.now self }
     {
-        let end = self.end;
-        let at = self.at;
-        let stop = number::lesser(end, file.len());
-        let from = number::lesser(at, stop);
+        let stop = self.end.min(file.len());
+        let from = self.at.min(stop);
         self.step_over(&file[from..stop])
     }
 }

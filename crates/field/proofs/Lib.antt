@@ -1,4 +1,3 @@
 pub mod Inverse
-pub mod Signed
 pub mod Stores
 pub mod Tabulate

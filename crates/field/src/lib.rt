@@ -3,16 +3,38 @@
 // the end are 0.
 #![tactic(auto)]
 
-ghost use Rattle.std.specs.Prelude.{◌≡◌, ◌+◌, ◌*◌, ◌/◌, ◌%◌, ◌<◌, ◌≤◌, length, get_or};
-ghost use Rattle.std.specs.Int.{w16, w32};
-ghost use Rattle.std.proofs.Common.{to_z, of_z};
-ghost use Rattle.field.specs.Numbers.{u16_at, u32_at, i16_at, i32_at, bytes_at, u32s_at, i16s_at};
+ghost use Rattle.std.specs.Prelude.{◌≡◌, ◌+◌, ◌*◌, ◌<◌, ◌≤◌, ℕ, List, pos, length, get_or};
+ghost use Rattle.std.specs.Int.{w16, w32, cast_unsigned};
+ghost use Rattle.field.specs.declared.Order.{Order};
+ghost use Rattle.field.specs.Numbers.{tabulate, u16_at, u32_at, i16_at, i32_at, bytes_at, bytes_of, padded};
 
 // The byte order of a file's numbers.
 #[derive(Clone, Copy)]
 pub enum Order {
     Little,
     Big,
+}
+
+// A number of a file, of WIDTH bytes: `number_at` is what is stored at a place, and `number_bits` are its own bits. Past the end
+// of a list it is `number_zero`.
+pub trait Number: Copy + Default {
+    const WIDTH: usize;
+
+    ghost WIDTH: { ℕ };
+
+    ghost number_at: { Order → List ℕ → ℕ → Self };
+
+    ghost number_bits: { Self → ℕ };
+
+    ghost number_zero: { Self };
+
+    fn read(s: &[u8], at: usize, order: Order) -> Self
+        requires { at + WIDTH ≤ length s.now }
+        ensures { result ≡ number_at order s.now at };
+
+    // The number's own bytes come first.
+    fn bytes(self, order: Order) -> [u8; 4]
+        ensures { padded WIDTH result ≡ bytes_of order WIDTH (number_bits self) };
 }
 
 // The byte at a place.
@@ -22,118 +44,120 @@ pub fn byte_at(s: &[u8], at: usize) -> u8
     if at < s.len() { s[at] } else { 0 }
 }
 
-fn byte(s: &[u8], at: usize) -> u8
-    requires { at < length s.now }
-    ensures { result ≡ get_or s.now at 0 }
-{
-    s[at]
-}
+impl Number for u16 {
+    const WIDTH: usize = 2;
 
-fn byte16(s: &[u8], at: usize) -> u16
-    requires { at < length s.now }
-    ensures { (result ≡ get_or s.now at 0) × (result < 256) }
-{
-    byte(s, at) as u16
-}
+    ghost WIDTH = { 2 };
 
-fn byte32(s: &[u8], at: usize) -> u32
-    requires { at < length s.now }
-    ensures { (result ≡ get_or s.now at 0) × (result < 256) }
-{
-    byte(s, at) as u32
-}
+    ghost number_at = { u16_at };
 
-pub fn read_u16(s: &[u8], at: usize, order: Order) -> u16
-    requires { at + 2 ≤ length s.now }
-    ensures { result ≡ u16_at order s.now at }
-{
-    let a = byte16(s, at);
-    let b = byte16(s, at + 1);
-    match order {
-        Order::Little => a + 256 * b,
-        Order::Big => 256 * a + b,
+    ghost number_bits = { λ n. n };
+
+    ghost number_zero = { 0 };
+
+    #[tactic(auto, unfolding(crate::specs::Numbers::u16_at))]
+    fn read(s: &[u8], at: usize, order: Order) -> u16 {
+        let bytes = [s[at], s[at + 1]];
+        match order {
+            Order::Little => u16::from_le_bytes(bytes),
+            Order::Big => u16::from_be_bytes(bytes),
+        }
+    }
+
+    #[tactic(auto, unfolding(crate::specs::Numbers::bytes_of, crate::specs::Numbers::padded))]
+    fn bytes(self, order: Order) -> [u8; 4] {
+        let [a, b] = match order {
+            Order::Little => self.to_le_bytes(),
+            Order::Big => self.to_be_bytes(),
+        };
+        [a, b, 0, 0]
     }
 }
 
-// A number's four bytes in the other order.
-fn turned32(n: u32) -> u32
-    ensures { result ≡ n / 16777216 + 256 * (n / 65536 % 256) + 65536 * (n / 256 % 256) + 16777216 * (n % 256) }
-{
-    n / 16777216 + 256 * (n / 65536 % 256) + 65536 * (n / 256 % 256) + 16777216 * (n % 256)
-}
+impl Number for u32 {
+    const WIDTH: usize = 4;
 
-// The bytes are taken in one order, and turned for the other, so that the compiler makes one load of the four.
-pub fn read_u32(s: &[u8], at: usize, order: Order) -> u32
-    requires { at + 4 ≤ length s.now }
-    ensures { result ≡ u32_at order s.now at }
-{
-    let a = byte32(s, at);
-    let b = byte32(s, at + 1);
-    let c = byte32(s, at + 2);
-    let d = byte32(s, at + 3);
-    let n = a + 256 * b + 65536 * c + 16777216 * d;
-    match order {
-        Order::Little => n,
-        Order::Big => turned32(n),
+    ghost WIDTH = { 4 };
+
+    ghost number_at = { u32_at };
+
+    ghost number_bits = { λ n. n };
+
+    ghost number_zero = { 0 };
+
+    #[tactic(auto, unfolding(crate::specs::Numbers::u32_at))]
+    fn read(s: &[u8], at: usize, order: Order) -> u32 {
+        let bytes = [s[at], s[at + 1], s[at + 2], s[at + 3]];
+        match order {
+            Order::Little => u32::from_le_bytes(bytes),
+            Order::Big => u32::from_be_bytes(bytes),
+        }
+    }
+
+    #[tactic(auto, unfolding(crate::specs::Numbers::bytes_of, crate::specs::Numbers::padded))]
+    fn bytes(self, order: Order) -> [u8; 4] {
+        match order {
+            Order::Little => self.to_le_bytes(),
+            Order::Big => self.to_be_bytes(),
+        }
     }
 }
 
-// Two's complement: 16 bits as a signed number, and back; then 32 bits.
-pub fn signed16(n: u16) -> i16
-    ensures { result ≡ to_z w16 n }
-{
-    if n < 32768 {
-        n as i16
-    } else {
-        !((65535 - n) as i16)
+// A signed number is the unsigned one of its bits, in two's complement.
+impl Number for i16 {
+    const WIDTH: usize = 2;
+
+    ghost WIDTH = { 2 };
+
+    ghost number_at = { i16_at };
+
+    ghost number_bits = { cast_unsigned w16 };
+
+    ghost number_zero = { pos 0 };
+
+    fn read(s: &[u8], at: usize, order: Order) -> i16 {
+        u16::read(s, at, order).cast_signed()
+    }
+
+    fn bytes(self, order: Order) -> [u8; 4] {
+        self.cast_unsigned().bytes(order)
     }
 }
 
-pub fn bits16(z: i16) -> u16
-    ensures { result ≡ of_z w16 z }
-{
-    if z < 0 {
-        65535 - ((!z) as u16)
-    } else {
-        z as u16
+impl Number for i32 {
+    const WIDTH: usize = 4;
+
+    ghost WIDTH = { 4 };
+
+    ghost number_at = { i32_at };
+
+    ghost number_bits = { cast_unsigned w32 };
+
+    ghost number_zero = { pos 0 };
+
+    fn read(s: &[u8], at: usize, order: Order) -> i32 {
+        u32::read(s, at, order).cast_signed()
+    }
+
+    fn bytes(self, order: Order) -> [u8; 4] {
+        self.cast_unsigned().bytes(order)
     }
 }
 
-pub fn signed32(n: u32) -> i32
-    ensures { result ≡ to_z w32 n }
+// The numbers of a field that is an array.
+pub fn numbers<T: Number, const N: usize>(s: &[u8], at: usize, order: Order) -> [T; N]
+    requires { at + N * T.WIDTH ≤ length s.now }
+    ensures { result ≡ tabulate (λ i. T.number_at order s.now (at + i * T.WIDTH)) N }
 {
-    if n < 2147483648 {
-        n as i32
-    } else {
-        !((4294967295 - n) as i32)
+    let mut out = [T::default(); N];
+    for (i, n) in out.iter_mut().enumerate() {
+        *n = T::read(s, at + i * T::WIDTH, order);
     }
+    out
 }
 
-pub fn bits32(z: i32) -> u32
-    ensures { result ≡ of_z w32 z }
-{
-    if z < 0 {
-        4294967295 - ((!z) as u32)
-    } else {
-        z as u32
-    }
-}
-
-pub fn read_i16(s: &[u8], at: usize, order: Order) -> i16
-    requires { at + 2 ≤ length s.now }
-    ensures { result ≡ i16_at order s.now at }
-{
-    signed16(read_u16(s, at, order))
-}
-
-pub fn read_i32(s: &[u8], at: usize, order: Order) -> i32
-    requires { at + 4 ≤ length s.now }
-    ensures { result ≡ i32_at order s.now at }
-{
-    signed32(read_u32(s, at, order))
-}
-
-// Fills `out` with the bytes from a place, with zeros where the slice ends before; then, where it doesn't, with numbers.
+// Fills `out` with the bytes from a place, with zeros where the slice ends before.
+#[tactic(auto, using(crate::proofs::Tabulate::part_copied))]
 pub fn copy_out(s: &[u8], at: usize, out: &mut [u8])
     requires { at + length out.old < 4294967296 }
     ensures { out.new ≡ bytes_at at (length out.old) s.now }
@@ -146,35 +170,12 @@ pub fn copy_out(s: &[u8], at: usize, out: &mut [u8])
     }
 }
 
+#[tactic(auto, using(crate::proofs::Tabulate::tabulate_turn))]
 fn pad_out(s: &[u8], at: usize, out: &mut [u8])
     requires { at + length out.old < 4294967296 }
     ensures { out.new ≡ bytes_at at (length out.old) s.now }
 {
-    let mut i = 0;
-    while i < out.len() {
-        out[i] = byte_at(s, at + i);
-        i += 1;
-    }
-}
-
-pub fn u32s_out(s: &[u8], at: usize, order: Order, out: &mut [u32])
-    requires { at + length out.old * 4 ≤ length s.now }
-    ensures { out.new ≡ u32s_at order s.now at (length out.old) }
-{
-    let mut i = 0;
-    while i < out.len() {
-        out[i] = read_u32(s, at + i * 4, order);
-        i += 1;
-    }
-}
-
-pub fn i16s_out(s: &[u8], at: usize, order: Order, out: &mut [i16])
-    requires { at + length out.old * 2 ≤ length s.now }
-    ensures { out.new ≡ i16s_at order s.now at (length out.old) }
-{
-    let mut i = 0;
-    while i < out.len() {
-        out[i] = read_i16(s, at + i * 2, order);
-        i += 1;
+    for (i, b) in out.iter_mut().enumerate() {
+        *b = byte_at(s, at + i);
     }
 }

@@ -30,9 +30,7 @@ fn rows(
     ensures { out.new
         ≡ laid at pitch (λ j. gathered b src.now (from + reach y j) (x ∷ [])) y.length out.old }
 {
-    let n = y.length;
-    let mut j: usize = 0;
-    while j < n {
+    for j in 0..y.length {
         gather_row::row(
             out,
             at + pitch * j,
@@ -41,7 +39,6 @@ fn rows(
             x,
             b,
         );
-        j = j + 1;
     }
 }
 
@@ -97,7 +94,7 @@ fn tiles(
     let mut j: usize = 0;
     while j < n {
         let left = n - j;
-        let m = number::lesser(left, side);
+        let m = left.min(side);
         let part = Axis {
             length: m,
             up: y.up,
@@ -105,7 +102,7 @@ fn tiles(
         };
         let low = from + (y.up * j + y.down * (left - m));
         tile(out, at + pitch * j, pitch, src, low, x, part, b, block);
-        j = j + m;
+        j += m;
     }
 }
 
@@ -113,22 +110,10 @@ fn tiles(
 fn is_tiled(x: Axis, y: Axis, b: usize) -> bool
     ensures { result ≡ true → Tiled b x y }
 {
-    if b == 0 {
-        return false;
-    }
-    if x.length > TILE / LINE {
-        return false;
-    }
-    if y.length < 2 {
-        return false;
-    }
-    if y.down == 0 {
-        return y.up == b;
-    }
-    if y.up == 0 {
-        return y.down == b;
-    }
-    false
+    1 <= b
+        && x.length <= TILE / LINE
+        && 2 <= y.length
+        && ((y.down == 0 && y.up == b) || (y.up == 0 && y.down == b))
 }
 
 // A row of x for each number of y, either way.
@@ -177,9 +162,7 @@ fn planes(
         ≡ stacked at lift pitch (λ k j. gathered b src.now (from + reach z k + reach y j) (x ∷ []))
         y.length z.length out.old }
 {
-    let n = z.length;
-    let mut k: usize = 0;
-    while k < n {
+    for k in 0..z.length {
         plane(
             out,
             at + lift * k,
@@ -191,7 +174,6 @@ fn planes(
             b,
             block,
         );
-        k = k + 1;
     }
 }
 
@@ -246,10 +228,8 @@ fn up_to(
     if k == 2 {
         return volume(out, at, src, from, axes[0], axes[1], axis, b, block);
     }
-    let n = axis.length;
     let mut to = at;
-    let mut j: usize = 0;
-    while j < n {
+    for j in 0..axis.length {
         to = up_to(
             out,
             to,
@@ -260,7 +240,6 @@ fn up_to(
             b,
             block,
         );
-        j = j + 1;
     }
     to
 }

@@ -1,9 +1,9 @@
 -- Laws of specs/Gather.antt: an axis more, and one axis by itself.
-use mathlib.Core.Path.{◌≡◌, refl, sym, ap, ◌∙◌}
+use mathlib.Core.Path.{◌≡◌, sym, ap, ◌∙◌}
 use mathlib.Core.List.{List, [], ◌∷◌, ◌++◌}
 use Prim.Native.Nat.{ℕ, zero, suc, ◌+◌, ◌-◌, ◌*◌, ◌/◌, ◌%◌, ◌≤◌, ◌<◌, zero-le, suc-le-suc}
 use native.Mathlib.Nat.{add-zero, zero-add, add_assoc, mul_comm, mul_assoc, one-mul, mul-one, mul-suc, suc-mul, zero-mul}
-use native.Mathlib.Nat.{mod-eq_of_lt, mod-lt, mul-add-mod_self_left, mul-add-div, mul-pos, not-suc-le-zero, le_of_suc-le-suc}
+use native.Mathlib.Nat.{mod-eq_of_lt, mod-lt, mul-add-mod_self_left, mul-add-div, mul-pos}
 use native.Mathlib.Numerals.{add-one}
 use native.Mathlib.Omega.{arith}
 use lib.Arith.{digits_lt}
@@ -80,18 +80,6 @@ inside_from b size from xs h = omega (arith, h.each 0 h.some)
 -- the first k + 1 of some axes
 pub axis_more : (xs : List Axis) (k : ℕ) (d : Axis) → k < length xs → take (k + 1) xs ≡ take k xs ++ (get_or xs k d ∷ [])
 axis_more xs k d h = rw add-one (take-suc xs k d h)
-
-axes_two : (xs : List Axis) (d : Axis) → 2 ≤ length xs → take 2 xs ≡ get_or xs 0 d ∷ (get_or xs 1 d ∷ [])
-axes_two [] d h = absurd (not-suc-le-zero h)
-axes_two (a ∷ []) d h = absurd (not-suc-le-zero (le_of_suc-le-suc h))
-axes_two (a ∷ (b ∷ xs)) d h = refl
-
-pub axes_three : (xs : List Axis) (k : ℕ) (d : Axis) → k < length xs → k ≡ 2
-    → take (k + 1) xs ≡ get_or xs 0 d ∷ (get_or xs 1 d ∷ (get_or xs k d ∷ []))
-axes_three xs k d h e =
-    axis_more xs k d h
-    ∙ ap (λ (i : ℕ). take i xs ++ (get_or xs k d ∷ [])) e
-    ∙ ap (λ (ys : List Axis). ys ++ (get_or xs k d ∷ [])) (axes_two xs d (omega arith))
 
 -- ---- no axis: one voxel
 

@@ -52,12 +52,10 @@ fn one_by_one(out: &mut [u8], at: usize, src: &[u8], from: usize, axis: Axis, b:
     let last = axis.length - 1;
     let mut place = place_of(from, axis, 0);
     let mut to = at;
-    let mut j: usize = 0;
-    while j < last {
+    for j in 0..last {
         copy_voxel(out, to, src, place, b);
         place = place - axis.down + axis.up;
-        to = to + b;
-        j = j + 1;
+        to += b;
     }
     copy_voxel(out, to, src, place, b);
     to + b
@@ -93,7 +91,7 @@ fn copy_run(out: &mut [u8], at: usize, src: &[u8], from: usize, n: usize)
     let mut done: usize = 0;
     while LINE <= n - done {
         copy_voxel(out, at + done, src, from + done, LINE);
-        done = done + LINE;
+        done += LINE;
     }
     let start = from + done;
     let end = from + n;
@@ -144,14 +142,14 @@ fn backwards(out: &mut [u8], at: usize, src: &[u8], from: usize, axis: Axis, b: 
     let mut j: usize = 0;
     while j < n {
         let left = n - j;
-        let m = number::lesser(left, side);
+        let m = left.min(side);
         let part = Axis {
             length: m,
             up: 0,
             down: b,
         };
         to = line_back(out, to, src, from + b * (left - m), part, b);
-        j = j + m;
+        j += m;
     }
     to
 }
@@ -180,15 +178,11 @@ pub fn row(out: &mut [u8], at: usize, src: &[u8], from: usize, axis: Axis, b: us
     ensures { (out.new ≡ put out.old at (gathered b src.now from (axis ∷ [])))
         × (result ≡ at + length (gathered b src.now from (axis ∷ []))) }
 {
-    if axis.down == 0 {
-        if axis.up == b {
-            return side_by_side(out, at, src, from, axis, b);
-        }
+    if axis.down == 0 && axis.up == b {
+        side_by_side(out, at, src, from, axis, b)
+    } else if axis.up == 0 && axis.down == b {
+        reversed(out, at, src, from, axis, b)
+    } else {
+        by_width(out, at, src, from, axis, b)
     }
-    if axis.up == 0 {
-        if axis.down == b {
-            return reversed(out, at, src, from, axis, b);
-        }
-    }
-    by_width(out, at, src, from, axis, b)
 }

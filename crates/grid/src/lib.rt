@@ -11,7 +11,7 @@ pub const LIMIT: u64 = 1_099_511_627_776;
 
 // An image's sizes: its bytes in all and, for each axis, the step, that is how many bytes on from a voxel the next one along
 // the axis is (specs/Sizes.antt).
-#[derive(Clone, Copy)]
+#[derive(Clone, Copy, PartialEq, Eq)]
 pub struct Sizes {
     pub total: u64,
     pub steps: [u64; 7],
@@ -31,11 +31,9 @@ pub fn axis_length(dim: &[i16], i: usize) -> u64
 pub fn first_below_one(dim: &[i16], n: usize) -> usize
     ensures { result ≡ first_below dim.now n }
 {
-    let mut i = 0;
-    while i < n {
-        i += 1;
-        if axis_length(dim, i) < 1 {
-            return i;
+    for i in 0..n {
+        if axis_length(dim, i + 1) < 1 {
+            return i + 1;
         }
     }
     0
@@ -54,11 +52,9 @@ pub fn image_bytes(dim: &[i16], n: usize, bytes: u64) -> u64
     ensures { result ≡ capped (image_bytes dim.now n bytes) }
 {
     let mut product = bytes;
-    let mut axis = 0;
-    while axis < n {
-        axis += 1;
+    for axis in 0..n {
         let kept = limited(product);
-        product = kept * axis_length(dim, axis);
+        product = kept * axis_length(dim, axis + 1);
     }
     limited(product)
 }
@@ -69,10 +65,8 @@ pub fn seven(dim: &[i16], n: usize) -> [u64; 7]
     ensures { result ≡ seven_axes dim.now n }
 {
     let mut lengths = [1u64; 7];
-    let mut k = 0;
-    while k < n {
+    for k in 0..n {
         lengths[k] = axis_length(dim, k + 1);
-        k += 1;
     }
     lengths
 }

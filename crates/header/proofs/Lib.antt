@@ -1,4 +1,3 @@
 pub mod Front
-pub mod Groups
 pub mod Agree
 pub mod Distinct

@@ -5,11 +5,11 @@
 #![tactic(auto)]
 
 ghost use Rattle.std.specs.Prelude.{◌≡◌, ◌+◌, ◌<◌, ◌≤◌, length};
-ghost use Rattle.field.specs.Numbers.{bytes_at, u32s_at, i16s_at};
+ghost use Rattle.field.specs.Numbers.{bytes_at, i16s_at};
 ghost use Rattle.header.specs.Fields.{header_of, key_of, intent_of, scale_of, display_of, quatern_of, rows_of};
 
 use extension::{LIMIT, Span};
-use field::Order;
+use field::{Number, Order};
 use grid::Sizes;
 
 // A single file (magic n+1), or the header file of a pair (magic ni1).
@@ -108,77 +108,13 @@ pub struct Rows {
     pub magic: [u8; 4],
 }
 
-// The text of a field, at each width that the header has.
-fn text4(file: &[u8], at: usize) -> [u8; 4]
-    requires { at < 4294967000 }
-    ensures { result ≡ bytes_at at 4 file.now }
+// The text of a field.
+fn text<const N: usize>(file: &[u8], at: usize) -> [u8; N]
+    requires { at + N < 4294967296 }
+    ensures { result ≡ bytes_at at N file.now }
 {
-    let mut out = [0u8; 4];
+    let mut out = [0u8; N];
     field::copy_out(file, at, &mut out);
-    out
-}
-
-fn text10(file: &[u8], at: usize) -> [u8; 10]
-    requires { at < 4294967000 }
-    ensures { result ≡ bytes_at at 10 file.now }
-{
-    let mut out = [0u8; 10];
-    field::copy_out(file, at, &mut out);
-    out
-}
-
-fn text16(file: &[u8], at: usize) -> [u8; 16]
-    requires { at < 4294967000 }
-    ensures { result ≡ bytes_at at 16 file.now }
-{
-    let mut out = [0u8; 16];
-    field::copy_out(file, at, &mut out);
-    out
-}
-
-fn text18(file: &[u8], at: usize) -> [u8; 18]
-    requires { at < 4294967000 }
-    ensures { result ≡ bytes_at at 18 file.now }
-{
-    let mut out = [0u8; 18];
-    field::copy_out(file, at, &mut out);
-    out
-}
-
-fn text24(file: &[u8], at: usize) -> [u8; 24]
-    requires { at < 4294967000 }
-    ensures { result ≡ bytes_at at 24 file.now }
-{
-    let mut out = [0u8; 24];
-    field::copy_out(file, at, &mut out);
-    out
-}
-
-fn text80(file: &[u8], at: usize) -> [u8; 80]
-    requires { at < 4294967000 }
-    ensures { result ≡ bytes_at at 80 file.now }
-{
-    let mut out = [0u8; 80];
-    field::copy_out(file, at, &mut out);
-    out
-}
-
-// The numbers of a field that is an array.
-pub fn u32x4(file: &[u8], at: usize, order: Order) -> [u32; 4]
-    requires { at + 16 ≤ length file.now }
-    ensures { result ≡ u32s_at order file.now at 4 }
-{
-    let mut out = [0u32; 4];
-    field::u32s_out(file, at, order, &mut out);
-    out
-}
-
-fn u32x8(file: &[u8], at: usize, order: Order) -> [u32; 8]
-    requires { at + 32 ≤ length file.now }
-    ensures { result ≡ u32s_at order file.now at 8 }
-{
-    let mut out = [0u32; 8];
-    field::u32s_out(file, at, order, &mut out);
     out
 }
 
@@ -187,9 +123,7 @@ pub fn dims(file: &[u8], order: Order) -> [i16; 8]
     requires { 56 ≤ length file.now }
     ensures { result ≡ i16s_at order file.now 40 8 }
 {
-    let mut out = [0i16; 8];
-    field::i16s_out(file, 40, order, &mut out);
-    out
+    field::numbers(file, 40, order)
 }
 
 // The groups, read in file order.
@@ -198,11 +132,11 @@ fn read_key(file: &[u8], order: Order) -> Key
     ensures { result ≡ key_of order file.now }
 {
     Key {
-        sizeof_hdr: field::read_i32(file, 0, order),
-        data_type: text10(file, 4),
-        db_name: text18(file, 14),
-        extents: field::read_i32(file, 32, order),
-        session_error: field::read_i16(file, 36, order),
+        sizeof_hdr: i32::read(file, 0, order),
+        data_type: text(file, 4),
+        db_name: text(file, 14),
+        extents: i32::read(file, 32, order),
+        session_error: i16::read(file, 36, order),
         regular: field::byte_at(file, 38),
         dim_info: field::byte_at(file, 39),
     }
@@ -213,13 +147,13 @@ fn read_intent(file: &[u8], order: Order) -> Intent
     ensures { result ≡ intent_of order file.now }
 {
     Intent {
-        intent_p1: field::read_u32(file, 56, order),
-        intent_p2: field::read_u32(file, 60, order),
-        intent_p3: field::read_u32(file, 64, order),
-        intent_code: field::read_i16(file, 68, order),
-        datatype: field::read_i16(file, 70, order),
-        bitpix: field::read_i16(file, 72, order),
-        slice_start: field::read_i16(file, 74, order),
+        intent_p1: u32::read(file, 56, order),
+        intent_p2: u32::read(file, 60, order),
+        intent_p3: u32::read(file, 64, order),
+        intent_code: i16::read(file, 68, order),
+        datatype: i16::read(file, 70, order),
+        bitpix: i16::read(file, 72, order),
+        slice_start: i16::read(file, 74, order),
     }
 }
 
@@ -228,11 +162,11 @@ fn read_scale(file: &[u8], order: Order) -> Scale
     ensures { result ≡ scale_of order file.now }
 {
     Scale {
-        pixdim: u32x8(file, 76, order),
-        vox_offset: field::read_u32(file, 108, order),
-        scl_slope: field::read_u32(file, 112, order),
-        scl_inter: field::read_u32(file, 116, order),
-        slice_end: field::read_i16(file, 120, order),
+        pixdim: field::numbers(file, 76, order),
+        vox_offset: u32::read(file, 108, order),
+        scl_slope: u32::read(file, 112, order),
+        scl_inter: u32::read(file, 116, order),
+        slice_end: i16::read(file, 120, order),
         slice_code: field::byte_at(file, 122),
         xyzt_units: field::byte_at(file, 123),
     }
@@ -243,14 +177,14 @@ fn read_display(file: &[u8], order: Order) -> Display
     ensures { result ≡ display_of order file.now }
 {
     Display {
-        cal_max: field::read_u32(file, 124, order),
-        cal_min: field::read_u32(file, 128, order),
-        slice_duration: field::read_u32(file, 132, order),
-        toffset: field::read_u32(file, 136, order),
-        glmax: field::read_i32(file, 140, order),
-        glmin: field::read_i32(file, 144, order),
-        descrip: text80(file, 148),
-        aux_file: text24(file, 228),
+        cal_max: u32::read(file, 124, order),
+        cal_min: u32::read(file, 128, order),
+        slice_duration: u32::read(file, 132, order),
+        toffset: u32::read(file, 136, order),
+        glmax: i32::read(file, 140, order),
+        glmin: i32::read(file, 144, order),
+        descrip: text(file, 148),
+        aux_file: text(file, 228),
     }
 }
 
@@ -259,14 +193,14 @@ fn read_quatern(file: &[u8], order: Order) -> Quatern
     ensures { result ≡ quatern_of order file.now }
 {
     Quatern {
-        qform_code: field::read_i16(file, 252, order),
-        sform_code: field::read_i16(file, 254, order),
-        quatern_b: field::read_u32(file, 256, order),
-        quatern_c: field::read_u32(file, 260, order),
-        quatern_d: field::read_u32(file, 264, order),
-        qoffset_x: field::read_u32(file, 268, order),
-        qoffset_y: field::read_u32(file, 272, order),
-        qoffset_z: field::read_u32(file, 276, order),
+        qform_code: i16::read(file, 252, order),
+        sform_code: i16::read(file, 254, order),
+        quatern_b: u32::read(file, 256, order),
+        quatern_c: u32::read(file, 260, order),
+        quatern_d: u32::read(file, 264, order),
+        qoffset_x: u32::read(file, 268, order),
+        qoffset_y: u32::read(file, 272, order),
+        qoffset_z: u32::read(file, 276, order),
     }
 }
 
@@ -275,15 +209,16 @@ fn read_rows(file: &[u8], order: Order) -> Rows
     ensures { result ≡ rows_of order file.now }
 {
     Rows {
-        srow_x: u32x4(file, 280, order),
-        srow_y: u32x4(file, 296, order),
-        srow_z: u32x4(file, 312, order),
-        intent_name: text16(file, 328),
-        magic: text4(file, 344),
+        srow_x: field::numbers(file, 280, order),
+        srow_y: field::numbers(file, 296, order),
+        srow_z: field::numbers(file, 312, order),
+        intent_name: text(file, 328),
+        magic: text(file, 344),
     }
 }
 
 // All of a record that the bytes state: its sizes and its aligned fact are not among them.
+#[tactic(auto, unfolding(crate::specs::Fields::header_of))]
 fn parse_front(front: &[u8], order: Order, kind: Kind, count: usize, spans: [Span; LIMIT]) -> Header
     requires { 348 ≤ length front.now }
     ensures { result ≡ header_of order kind count spans front.now }

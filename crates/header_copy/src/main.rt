@@ -2,23 +2,18 @@
 // (01-scope.md, "The writer takes any record"). Of a refused file, or one longer than 65536 bytes, it writes nothing.
 #![tactic(auto)]
 
-use refusal::Verdict;
 use std::io;
 
 const LONGEST: usize = 65536;
 
 fn copy(rt: &impl Print, file: &[u8]) -> io::Result<()> {
     let reading = reader::read(file);
-    let verdict = reading.verdict;
-    match verdict {
-        Verdict::Accepted => {
-            let header = reading.header;
-            let mut front = [0u8; 348];
-            writer::write(header, &mut front);
-            rt.write_all(&front)
-        }
-        Verdict::Refused(_) => Ok(()),
+    if reading.verdict.is_err() {
+        return Ok(());
     }
+    let mut front = [0u8; 348];
+    let _ = writer::write(reading.header, &mut front);
+    rt.write_all(&front)
 }
 
 fn main(rt: HostRuntime) -> io::Result<()> {

@@ -1,4 +1,6 @@
 -- What rules 1 to 4 decide, rule by rule: each law names the rules that have passed and the one that refuses.
+use Rattle.refusal.specs.declared.Rule.TheVariants.{ShortHeader, AxisCount, HeaderSize, UnknownMagic}
+use Rattle.std.specs.Prelude.{Err}
 use Prim.Native.Nat.{ℕ, ◌+◌, ◌*◌, ◌<◌, ◌≤◌}
 use mathlib.Core.Path.{◌≡◌, refl, sym}
 use mathlib.Core.Bool.{Bool, true, false, cond, ◌&&◌, ◌||◌}
@@ -13,9 +15,8 @@ use Rattle.field.proofs.Inverse.{Bytes, none, one}
 use Rattle.refusal.specs.Table.{refusal, verdict}
 use Rattle.datatype.specs.Datatypes.{is_number}
 use Rattle.header.specs.declared.Kind.TheVariants.{Single, Pair}
-use Rattle.layout.specs.declared.Start.TheVariants.{Read, Unread}
 use Rattle.number.specs.Same.{same_numbers}
-use Rattle.layout.specs.File.{holds_in, order_of, has_magic, kind_of, start_in}
+use Rattle.layout.specs.File.{holds_in, order_of, has_magic, kind_of, start_in, started}
 
 -- numbers are the same exactly when their last digits to the base 256 are, and what is before these
 digit_same : (a b x y : ℕ) → a < 256 → b < 256 → eqb (a + 256 * x) (b + 256 * y) ≡ eqb a b && eqb x y
@@ -57,25 +58,25 @@ unfolding kind_of
 either_kind s = chosen (λ k. has_magic k s) Single Pair
 
 module _ (s : List ℕ) (len : ℕ) where
-  pub starts_1 : len < 348 → Unread (refusal 1 0) ≡ start_in s len
+  pub starts_1 : len < 348 → Err (refusal ShortHeader 0) ≡ start_in s len
   unfolding start_in verdict
   starts_1 h = simp (lt-ltb len 348 h)
 
   module _ (long : 348 ≤ len) where
-    pub starts_2 : holds_in (order_of s) s ≡ false → Unread (refusal 2 40) ≡ start_in s len
+    pub starts_2 : holds_in (order_of s) s ≡ false → Err (refusal AxisCount 40) ≡ start_in s len
     unfolding start_in verdict
     starts_2 o = simp (le-ltb len 348 long, either s, o)
 
     module _ (o : holds_in (order_of s) s ≡ true) where
-      pub starts_3 : is_number (i32_at (order_of s) s 0) 348 ≡ false → Unread (refusal 3 0) ≡ start_in s len
+      pub starts_3 : is_number (i32_at (order_of s) s 0) 348 ≡ false → Err (refusal HeaderSize 0) ≡ start_in s len
       unfolding start_in verdict
       starts_3 n = simp (le-ltb len 348 long, either s, o, n)
 
       module _ (n : is_number (i32_at (order_of s) s 0) 348 ≡ true) where
-        pub starts_4 : has_magic (kind_of s) s ≡ false → Unread (refusal 4 344) ≡ start_in s len
+        pub starts_4 : has_magic (kind_of s) s ≡ false → Err (refusal UnknownMagic 344) ≡ start_in s len
         unfolding start_in verdict
         starts_4 m = simp (le-ltb len 348 long, either s, o, n, either_kind s, m)
 
-        pub starts_read : has_magic (kind_of s) s ≡ true → Read (order_of s) (kind_of s) ≡ start_in s len
+        pub starts_read : has_magic (kind_of s) s ≡ true → started (order_of s) (kind_of s) ≡ start_in s len
         unfolding start_in verdict
         starts_read m = simp (le-ltb len 348 long, either s, o, n, either_kind s, m)

@@ -1,6 +1,8 @@
 -- What is judged of a file's header and its length: the refusal table, rules 1 to 12, in its order (01-scope.md, "Refusal numbers", "The
 -- header rules", "Extensions"); and what its extender says (02-change-requests.md, P2).
-use Rattle.std.specs.Prelude.{ℕ, Bool, false, not, cond, ◌&&◌, ◌||◌, List, [], ◌∷◌, ◌++◌, ltb, eqb, length, get_or}
+use Rattle.refusal.specs.declared.Rule.TheVariants.{ShortHeader, AxisCount, HeaderSize, UnknownMagic, FileCut, ExtenderCut}
+use Rattle.refusal.specs.declared.Refusal.{Refusal}
+use Rattle.std.specs.Prelude.{ℕ, Bool, false, not, cond, ◌&&◌, ◌||◌, List, [], ◌∷◌, ◌++◌, ltb, eqb, length, get_or, Ok, Err, Result}
 use Rattle.field.specs.declared.Order.{Order}
 use Rattle.field.specs.declared.Order.TheVariants.{Little, Big}
 use Rattle.field.specs.Numbers.{bytes_at, u32_at, i16_at, i32_at, i16s_at}
@@ -13,11 +15,7 @@ use Rattle.header.specs.Fields.{magic_of}
 use Rattle.rules.specs.declared.Shape.{Shape}
 use Rattle.rules.specs.declared.Image.{Image}
 use Rattle.rules.specs.Rules.{one_to_seven, field_rows, image_of, aligned_in, cut_short, region_end}
-use Rattle.layout.specs.declared.Start.{Start}
-use Rattle.layout.specs.declared.Start.TheVariants.{Read, Unread}
 use Rattle.layout.specs.declared.Layout.{Layout}
-use Rattle.layout.specs.declared.Checked.{Checked}
-use Rattle.layout.specs.declared.Checked.TheVariants.{Fits, Breaks}
 
 -- dim[0], as it reads in a byte order, is in 1..7
 unfoldable pub holds_in : Order → List ℕ → Bool
@@ -37,15 +35,18 @@ kind_of s = cond (has_magic Single s) Single Pair
 -- rules 1 to 4. Here and below `len` is the file's length, and of its bytes s the first 348 are enough.
 abbrev pub head_rows : List ℕ → ℕ → List Row
 head_rows s len =
-    row 1 (ltb len 348) 0
-    ∷ row 2 (not (holds_in Little s || holds_in Big s)) 40
-    ∷ row 3 (not (is_number (i32_at (order_of s) s 0) 348)) 0
-    ∷ row 4 (not (has_magic Single s || has_magic Pair s)) 344
+    row ShortHeader (ltb len 348) 0
+    ∷ row AxisCount (not (holds_in Little s || holds_in Big s)) 40
+    ∷ row HeaderSize (not (is_number (i32_at (order_of s) s 0) 348)) 0
+    ∷ row UnknownMagic (not (has_magic Single s || has_magic Pair s)) 344
     ∷ []
 
 -- what is known of a file that these pass: its byte order and kind
-unfoldable pub start_in : List ℕ → ℕ → Start
-start_in s len = decided (verdict (head_rows s len)) (Read (order_of s) (kind_of s)) Unread
+abbrev pub started : Order → Kind → Result (Order × Kind) Refusal
+started order kind = Ok (order, kind)
+
+unfoldable pub start_in : List ℕ → ℕ → Result (Order × Kind) Refusal
+start_in s len = decided (verdict (head_rows s len)) (started (order_of s) (kind_of s)) Err
 
 -- the fields that rules 5 to 10 judge, in an order
 unfoldable pub shape_in : Order → Kind → List ℕ → Shape
@@ -91,7 +92,7 @@ cut_extender Pair len = ltb 348 len && ltb len 352
 
 -- rules 11 and 12
 abbrev pub end_rows : Kind → Image → ℕ → List Row
-end_rows kind image len = row 11 (cut_short kind len image) 108 ∷ row 12 (cut_extender kind len) 348 ∷ []
+end_rows kind image len = row FileCut (cut_short kind len image) 108 ∷ row ExtenderCut (cut_extender kind len) 348 ∷ []
 
 -- rules 1 to 12
 abbrev pub rows_in : List ℕ → ℕ → List Row
@@ -108,10 +109,10 @@ aligned_file s = aligned_in (shape_of s)
 abbrev pub layout_of : List ℕ → Layout
 layout_of s = record { order = order_of s; kind = kind_of s; image = image_of (shape_of s); aligned = aligned_file s }
 
-unfoldable pub checked_in : List ℕ → ℕ → Checked
-checked_in s len = decided (verdict (rows_in s len)) (Fits (layout_of s)) Breaks
+unfoldable pub checked_in : List ℕ → ℕ → Result Layout Refusal
+checked_in s len = decided (verdict (rows_in s len)) (Ok (layout_of s)) Err
 
-abbrev pub checked_of : List ℕ → Checked
+abbrev pub checked_of : List ℕ → Result Layout Refusal
 checked_of s = checked_in s (length s)
 
 -- where the region of the extensions ends in a whole file

@@ -3,7 +3,7 @@
 // says (02-change-requests.md, P2).
 #![tactic(auto)]
 
-ghost use Rattle.std.specs.Prelude.{◌≡◌, true, [], ◌∷◌, ℕ, ◌<◌, ◌≤◌, min, length};
+ghost use Rattle.std.specs.Prelude.{◌≡◌, true, [], ◌∷◌, ℕ, ◌<◌, ◌≤◌, min, length, Ok, Err};
 ghost use Rattle.field.specs.declared.Order.TheVariants.{Little};
 ghost use Rattle.field.specs.Numbers.{bytes_at, little_value, u32_at};
 ghost use Rattle.refusal.specs.Table.{verdict};
@@ -11,17 +11,10 @@ ghost use Rattle.number.specs.Same.{same_numbers};
 ghost use Rattle.layout.specs.File.{holds_in, order_of, has_magic, kind_of, start_in, shape_in, cut_extender};
 ghost use Rattle.layout.specs.File.{has_extensions, end_rows, checked_in, checked_of};
 
-use field::Order;
+use field::{Number, Order};
 use header::Kind;
-use refusal::{Refusal, Verdict};
-use rules::{Image, Judged, Shape};
-
-// What rules 1 to 4 leave known: a file's byte order and kind; or their refusal.
-#[derive(Clone, Copy)]
-pub enum Start {
-    Read(Order, Kind),
-    Unread(Refusal),
-}
+use refusal::{Refusal, Rule};
+use rules::{Image, Shape};
 
 // What rules 1 to 12 leave known; `aligned` is what the reading of the voxel offset said (02-change-requests.md, P6).
 #[derive(Clone, Copy)]
@@ -30,12 +23,6 @@ pub struct Layout {
     pub kind: Kind,
     pub image: Image,
     pub aligned: bool,
-}
-
-#[derive(Clone, Copy)]
-pub enum Checked {
-    Fits(Layout),
-    Breaks(Refusal),
 }
 
 // The number of four bytes, the first the least.
@@ -51,7 +38,7 @@ fn word_at(file: &[u8], at: usize) -> u32
     ensures { result ≡ u32_at Little file.now at }
 {
     if at + 4 <= file.len() {
-        return field::read_u32(file, at, Order::Little);
+        return u32::read(file, at, Order::Little);
     }
     let a = field::byte_at(file, at);
     let b = field::byte_at(file, at + 1);
@@ -73,7 +60,7 @@ pub fn holds_in(file: &[u8], order: Order) -> bool
     requires { 348 ≤ length file.now }
     ensures { result ≡ holds_in order file.now }
 {
-    let n = field::read_i16(file, 40, order);
+    let n = i16::read(file, 40, order);
     (1 <= n) & (n <= 7)
 }
 
@@ -97,34 +84,28 @@ pub fn kind_of(file: &[u8]) -> Kind
     }
 }
 
-fn unread(number: u64, place: usize) -> Start
-    ensures { result ≡ Start.Unread (record { number = number; place = place }) }
-{
-    Start::Unread(Refusal { number, place })
-}
-
 // Rules 3 and 4 of a file that 1 and 2 pass, with the byte order in which it passes 2.
-fn start_by(file: &[u8], order: Order) -> Start
+fn start_by(file: &[u8], order: Order) -> Result<(Order, Kind), Refusal>
     requires { (348 ≤ length file.now) × (order_of file.now ≡ order) × (holds_in order file.now ≡ true) }
     ensures { (len : ℕ) → 348 ≤ len → result ≡ start_in file.now len }
 {
-    if field::read_i32(file, 0, order) != 348 {
-        return unread(3, 0);
+    if i32::read(file, 0, order) != 348 {
+        return Err(Rule::HeaderSize.at(0));
     }
     let kind = kind_of(file);
     if !has_magic(file, kind) {
-        return unread(4, 344);
+        return Err(Rule::UnknownMagic.at(344));
     }
-    Start::Read(order, kind)
+    Ok((order, kind))
 }
 
 // Rules 1 to 4 of a file of `len` bytes. Each byte order has a branch of its own: from there on the compiler knows dim[0].
-fn start_in(file: &[u8], len: usize) -> Start
+fn start_in(file: &[u8], len: usize) -> Result<(Order, Kind), Refusal>
     requires { min len 348 ≤ length file.now }
     ensures { result ≡ start_in file.now len }
 {
     if len < 348 {
-        return unread(1, 0);
+        return Err(Rule::ShortHeader.at(0));
     }
     if holds_in(file, Order::Little) {
         return start_by(file, Order::Little);
@@ -132,7 +113,7 @@ fn start_in(file: &[u8], len: usize) -> Start
     if holds_in(file, Order::Big) {
         return start_by(file, Order::Big);
     }
-    unread(2, 40)
+    Err(Rule::AxisCount.at(40))
 }
 
 // The fields that rules 5 to 10 judge.
@@ -143,9 +124,9 @@ fn shape_in(file: &[u8], order: Order, kind: Kind) -> Shape
     Shape {
         kind,
         dim: header::dims(file, order),
-        datatype: field::read_i16(file, 70, order),
-        bitpix: field::read_i16(file, 72, order),
-        vox_offset: field::read_u32(file, 108, order),
+        datatype: i16::read(file, 70, order),
+        bitpix: i16::read(file, 72, order),
+        vox_offset: u32::read(file, 108, order),
     }
 }
 
@@ -167,61 +148,44 @@ pub fn has_extensions(file: &[u8]) -> bool
 }
 
 // Rules 11 and 12.
-fn check_end(len: usize, kind: Kind, image: Image) -> Verdict
+fn check_end(len: usize, kind: Kind, image: Image) -> Result<(), Refusal>
     ensures { result ≡ verdict (end_rows kind image len) }
 {
     if bounds::cut_short(kind, len, image) {
-        return Verdict::Refused(Refusal {
-            number: 11,
-            place: 108,
-        });
+        return Err(Rule::FileCut.at(108));
     }
     if cut_extender(kind, len) {
-        return Verdict::Refused(Refusal {
-            number: 12,
-            place: 348,
-        });
+        return Err(Rule::ExtenderCut.at(348));
     }
-    Verdict::Accepted
+    Ok(())
 }
 
 // Rules 5 to 12 of a file that 1 to 4 pass.
-fn check_fields(file: &[u8], len: usize, order: Order, kind: Kind) -> Checked
-    requires { (min len 348 ≤ length file.now) × (start_in file.now len ≡ Start.Read order kind) }
+fn check_fields(file: &[u8], len: usize, order: Order, kind: Kind) -> Result<Layout, Refusal>
+    requires { (min len 348 ≤ length file.now) × (start_in file.now len ≡ Ok (order, kind)) }
     ensures { result ≡ checked_in file.now len }
 {
-    let judged = rules::judge(shape_in(file, order, kind), len);
-    match judged {
-        Judged::Failed(r) => Checked::Breaks(r),
-        Judged::Passed(image, aligned) => {
-            let end = check_end(len, kind, image);
-            match end {
-                Verdict::Refused(r) => Checked::Breaks(r),
-                Verdict::Accepted => Checked::Fits(Layout {
-                    order,
-                    kind,
-                    image,
-                    aligned,
-                }),
-            }
-        }
-    }
+    let (image, aligned) = rules::judge(shape_in(file, order, kind), len)?;
+    check_end(len, kind, image)?;
+    Ok(Layout {
+        order,
+        kind,
+        image,
+        aligned,
+    })
 }
 
 // Rules 1 to 12 of a file of `len` bytes, of which `file` has the header or, where there are fewer, all.
-pub fn check_in(file: &[u8], len: usize) -> Checked
+pub fn check_in(file: &[u8], len: usize) -> Result<Layout, Refusal>
     requires { min len 348 ≤ length file.now }
     ensures { result ≡ checked_in file.now len }
 {
-    let start = start_in(file, len);
-    match start {
-        Start::Unread(r) => Checked::Breaks(r),
-        Start::Read(order, kind) => check_fields(file, len, order, kind),
-    }
+    let (order, kind) = start_in(file, len)?;
+    check_fields(file, len, order, kind)
 }
 
 // The same of a whole file.
-pub fn check(file: &[u8]) -> Checked
+pub fn check(file: &[u8]) -> Result<Layout, Refusal>
     ensures { result ≡ checked_of file.now }
 {
     check_in(file, file.len())

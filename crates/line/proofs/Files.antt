@@ -1,5 +1,8 @@
 -- A line of a file is the line of its record: where reading accepts, the sizes are those of the dims, and of the rules of any volume 16, 17 and 22
 -- alone are left.
+use Rattle.std.specs.Prelude.{Result}
+use Rattle.refusal.specs.declared.Refusal.{Refusal}
+use Rattle.voxel.specs.declared.Extent.{Extent}
 use Prim.Native.Nat.{ℕ, ◌-◌}
 use mathlib.Core.Path.{◌≡◌, refl, sym, ap, ◌∙◌}
 use mathlib.Core.Bool.{Bool, true, false}
@@ -9,22 +12,20 @@ use borrow.Author.Tests.{le-ltb}
 use lib.ListN.{length}
 use Rattle.refusal.specs.Table.{verdict}
 use Rattle.refusal.proofs.Rows.{Clear, one}
-use Rattle.grid.specs.declared.Sizes.{Sizes}
 use Rattle.grid.specs.Sizes.{sizes_by}
 use Rattle.header.specs.declared.Header.{Header}
 use Rattle.rules.specs.declared.Shape.{Shape}
 use Rattle.rules.specs.Rules.{axis_count, shape_rows, record_rows, image_of, shape_of_record, cut_short, image_cut, holder}
-use Rattle.rules.proofs.Sizes.{shape_measured, measured_sizes}
 use Rattle.reader.specs.Reading.{reading_of, IsAccepted}
-use Rattle.reader.proofs.File.{accepted_record, accepted_sizes, record_whole}
+use Rattle.reader.proofs.File.{accepted_record, record_whole}
 use Rattle.gather_row.proofs.Series.{series_same}
-use Rattle.voxel.specs.declared.Located.{Located}
 use Rattle.voxel.specs.declared.Volume.{Volume}
 use Rattle.voxel.specs.Voxel.{bytes_in}
 use Rattle.voxel.specs.Steps.{no_axes, volume_of}
 use Rattle.voxel.proofs.Stepping.{in_stepped}
 use Rattle.voxel.proofs.Sized.{volume_with, passed_fields, shape_most, inside_kept, first-length}
 use Rattle.by_file.specs.Files.{located_of, part_of, voxel_of}
+use Rattle.by_file.proofs.Shown.{volume_is}
 use Rattle.by_file.proofs.Steps.{accepted_stepped}
 use Rattle.line_plan.specs.Line.{with_number, along, count_along, line_outside, widest, line_strays, volume_verdict}
 use Rattle.line_plan.proofs.Places.{line_inside}
@@ -69,21 +70,13 @@ module _ (file image : List ℕ) (a : IsAccepted file) where
   abbrev h : Header
   h = (reading_of file).header
 
-  -- the record's sizes are those that its fields give
-  sizes_are : sizes_by h.dim (axis_count h.dim) (bytes_in (shape_of_record h)) ≡ h.sizes
-  sizes_are =
-      measured_sizes (shape_of_record h) (shape_measured (shape_of_record h) (accepted_record file a)) ∙ sym (accepted_sizes file a)
-
-  pub volume_is : volume_with (shape_of_record h) (sizes_by h.dim (axis_count h.dim) (bytes_in (shape_of_record h))) ≡ volume_of h
-  volume_is = ap (λ (z : Sizes). volume_with (shape_of_record h) z) sizes_are
-
   -- a voxel by the record is that of the file,
   voxel_same : (index : List ℕ) → voxel_in (volume_of h) file image index ≡ voxel_of file image index
   unfolding voxel_of located_of
   voxel_same index =
       let whole = (passed_fields (shape_of_record h) (accepted_record file a)).whole in
       let same = in_stepped h (length image) index whole ∙ accepted_stepped file a (length image) index in
-      rw a (ap (λ (l : Located). part_of l (holder h.kind file image)) same)
+      rw a (ap (λ (l : Result Extent Refusal). part_of l (holder h.kind file image)) same)
 
   module _ (axis : ℕ) (index : List ℕ) where
     -- and so is a line
@@ -97,6 +90,6 @@ module _ (file image : List ℕ) (a : IsAccepted file) where
     pub verdict_same : (out : ℕ) → volume_verdict (volume_of h) (length file) (length image) axis index out ≡ line_verdict file image axis index out
     unfolding line_verdict
     verdict_same out =
-        ap (λ (v : Volume). volume_verdict v (length file) (length image) axis index out) (sym volume_is)
+        ap (λ (v : Volume). volume_verdict v (length file) (length image) axis index out) (sym (volume_is file a))
         ∙ fields_verdict h (accepted_record file a) (length image) axis index (length file) out (record_whole file a)
         ∙ rw a

@@ -1,4 +1,5 @@
 -- The theorems on lines of voxels (02-change-requests.md, P7), over the definitions that the contracts cite.
+use Rattle.std.specs.Prelude.{Ok, Err, Result}
 use Prim.Native.Nat.{ℕ, suc, ◌-◌, ◌*◌, ◌≤◌, ◌<◌}
 use mathlib.Core.Path.{◌≡◌, refl, sym, ap, subst, ◌∙◌}
 use mathlib.Core.Bool.{Bool, true, false, ◌||◌}
@@ -9,9 +10,7 @@ use borrow.Author.Tests.{ltb-false}
 use lib.Dec.{eqb}
 use lib.ListN.{length, get_or, take, drop}
 use Rattle.refusal.specs.declared.Refusal.{Refusal}
-use Rattle.refusal.specs.declared.Verdict.{Verdict}
-use Rattle.refusal.specs.declared.Verdict.TheVariants as Verdicts
-use Rattle.refusal.specs.Table.{verdict, then}
+use Rattle.refusal.specs.Table.{verdict, then, Verdict, number_of, no_refusal}
 use Rattle.refusal.proofs.Rows.{Clear, none, one, accepted_clear, decided_accepted, decided-refused, refused_never}
 use Rattle.refusal.proofs.Rows.{between, between_wider, verdict_number}
 use Rattle.buffer.specs.Put.{put}
@@ -32,8 +31,6 @@ use Rattle.by_file.specs.Files.{voxel_of}
 use Rattle.by_file.proofs.Voxels.{index_located, voxel_length}
 use Rattle.line_plan.specs.Line.{with_number, along, count_along, line_outside, line_rows}
 use Rattle.line_plan.proofs.Places.{Inside, line_inside, own_number}
-use Rattle.line_copy.specs.declared.Lined.{Lined}
-use Rattle.line_copy.specs.declared.Lined.TheVariants.{Copied, Refused}
 use Rattle.line_copy.specs.Copied.{Copies, line_in}
 use Rattle.line.specs.Lines.{line_of, file_rows, line_verdict, line_answer, line_out, record_verdict, CopiesRecord, Lines}
 use Rattle.line.proofs.Files.{two_passed, line_same, verdict_same}
@@ -41,17 +38,17 @@ use Rattle.line.proofs.Files.{two_passed, line_same, verdict_same}
 -- ---- The engines
 
 -- "Their answers and the whole output buffer must be equal on any input, refused or not": both calls on a file ensure `Lines` of any input,
-pub lines_agree : (file image : List ℕ) (axis : ℕ) (index out : List ℕ) {a b : Lined} {o p : List ℕ}
+pub lines_agree : (file image : List ℕ) (axis : ℕ) (index out : List ℕ) {a b : Result ℕ Refusal} {o p : List ℕ}
     → Lines file image axis index out a o → Lines file image axis index out b p → (a ≡ b) × (o ≡ p)
 lines_agree file image axis index out x y = (x.0 ∙ sym y.0, x.1 ∙ sym y.1)
 
 -- and the call on a record ensures `CopiesRecord` by either engine.
-pub records_agree : (h : Header) (file image : List ℕ) (axis : ℕ) (index out : List ℕ) {a b : Lined} {o p : List ℕ}
+pub records_agree : (h : Header) (file image : List ℕ) (axis : ℕ) (index out : List ℕ) {a b : Result ℕ Refusal} {o p : List ℕ}
     → CopiesRecord h file image axis index out a o → CopiesRecord h file image axis index out b p → (a ≡ b) × (o ≡ p)
 records_agree h file image axis index out x y = (x.0 ∙ sym y.0, x.1 ∙ sym y.1)
 
 -- Of a record that reading gave it is the line of the file, refusals and the whole buffer included.
-pub read_lines : (file image : List ℕ) (axis : ℕ) (index out : List ℕ) {a : Lined} {o : List ℕ} → IsAccepted file
+pub read_lines : (file image : List ℕ) (axis : ℕ) (index out : List ℕ) {a : Result ℕ Refusal} {o : List ℕ} → IsAccepted file
     → CopiesRecord (reading_of file).header file image axis index out a o → Lines file image axis index out a o
 unfolding line_answer line_out
 read_lines file image axis index out {a = a} {o = o} accepted c =
@@ -63,12 +60,12 @@ read_lines file image axis index out {a = a} {o = o} accepted c =
     rw (line_same file image accepted axis index) at d
 
 -- what is copied is not refused
-copied_never : {k : ℕ} {r : Refusal} → Copied k ≡ Refused r → ⊥
-copied_never e = let z : ◌≡◌ {A = ℕ} 0 1 = cc in absurd (omega arith)
+copied_never : {k : ℕ} {r : Refusal} → ◌≡◌ {A = Result ℕ Refusal} (Ok k) (Err r) → ⊥
+copied_never e = absurd cc
 
 -- ---- What a line that is copied is like
 
-module _ (file image : List ℕ) (axis : ℕ) (index : List ℕ) (room k : ℕ) (done : line_answer file image axis index room ≡ Copied k) where
+module _ (file image : List ℕ) (axis : ℕ) (index : List ℕ) (room k : ℕ) (done : line_answer file image axis index room ≡ Ok k) where
   abbrev h : Header
   h = (reading_of file).header
 
@@ -79,11 +76,13 @@ module _ (file image : List ℕ) (axis : ℕ) (index : List ℕ) (room k : ℕ) 
   abbrev bytes : ℕ
   bytes = voxel_bytes h
 
-  passed : (line_verdict file image axis index room ≡ Verdicts.Accepted) × (Copied (length (line_of file image axis index)) ≡ Copied k)
+  passed : (line_verdict file image axis index room ≡ no_refusal) × (length (line_of file image axis index) ≡ k)
   unfolding line_answer
-  passed = decided_accepted (line_verdict file image axis index room) (λ r e. copied_never (sym e)) done
+  passed =
+      let p = decided_accepted (line_verdict file image axis index room) (λ r e. copied_never (sym e)) done in
+      (p.0, cc)
 
-  both : IsAccepted file × (verdict (file_rows h (length image) axis index room) ≡ Verdicts.Accepted)
+  both : IsAccepted file × (verdict (file_rows h (length image) axis index room) ≡ no_refusal)
   unfolding line_verdict
   both = decided_accepted (reading_of file).verdict (λ r. refused_never) passed.0
 
@@ -114,7 +113,7 @@ module _ (file image : List ℕ) (axis : ℕ) (index : List ℕ) (room k : ℕ) 
   pub line_length : k ≡ count * bytes
   unfolding line_of along
   line_length =
-      let is : length (line_of file image axis index) ≡ k = cc passed.1 in
+      let is = passed.1 in
       sym is
       ∙ series-length (λ j. voxel_of file image (with_number axis index j)) bytes count each-length
       ∙ mul_comm bytes count
@@ -146,12 +145,12 @@ module _ (file image : List ℕ) (axis : ℕ) (index : List ℕ) (room k : ℕ) 
     -- and "Only the bytes of the line are written".
     pub line_past : drop k (line_out file image axis index out) ≡ drop k out
     line_past =
-        let is : length (line_of file image axis index) ≡ k = cc passed.1 in
+        let is = passed.1 in
         ap (drop k) written ∙ drop-put out 0 (line_of file image axis index) k (omega arith) (omega arith)
 
 -- A refused call writes none.
 pub line_refused : (file image : List ℕ) (axis : ℕ) (index out : List ℕ) (r : Refusal)
-    → line_answer file image axis index (length out) ≡ Refused r → line_out file image axis index out ≡ out
+    → line_answer file image axis index (length out) ≡ Err r → line_out file image axis index out ≡ out
 unfolding line_answer line_out
 line_refused file image axis index out r e =
     let p = decided-refused (line_verdict file image axis index (length out)) copied_never e in
@@ -164,8 +163,8 @@ line_refused file image axis index out r e =
 abbrev pub line_number : ℕ → Bool
 line_number n = between 1 17 n || eqb n 22
 
-pub line_number_lem : (file image : List ℕ) (axis : ℕ) (index : List ℕ) (room : ℕ) (r : Refusal) → line_answer file image axis index room ≡ Refused r
-    → line_number r.number ≡ true
+pub line_number_lem : (file image : List ℕ) (axis : ℕ) (index : List ℕ) (room : ℕ) (r : Refusal) → line_answer file image axis index room ≡ Err r
+    → line_number (number_of r.rule) ≡ true
 unfolding line_answer line_verdict
 line_number_lem file image axis index room r e =
     let p = decided-refused (line_verdict file image axis index room) copied_never e in
@@ -175,18 +174,18 @@ line_number_lem file image axis index room r e =
     after : Verdict
     after = verdict (file_rows (reading_of file).header (length image) axis index room)
 
-    by : (q : Refusal) (v : Verdict) → (reading_of file).verdict ≡ v → then v after ≡ Verdicts.Refused q → line_number q.number ≡ true
-    by q Verdicts.Accepted d f = verdict_number line_number (file_rows (reading_of file).header (length image) axis index room) q refl f
-    by q (Verdicts.Refused p) d f =
+    by : (q : Refusal) (v : Verdict) → (reading_of file).verdict ≡ v → then v after ≡ Err q → line_number (number_of q.rule) ≡ true
+    by q (Ok tt) d f = verdict_number line_number (file_rows (reading_of file).header (length image) axis index room) q refl f
+    by q (Err p) d f =
         let same : p ≡ q = cc in
-        rw (between_wider 1 15 1 17 q.number refl (rw same at (reading_number file p d)))
+        rw (between_wider 1 15 1 17 (number_of q.rule) refl (rw same at (reading_number file p d)))
 
 -- of a record 2, 8, 9, 11, 16, 17, 22 and 26
 abbrev pub record_line_number : ℕ → Bool
 record_line_number n = eqb n 2 || (between 8 9 n || (eqb n 11 || (between 16 17 n || (eqb n 22 || eqb n 26))))
 
 pub record_line_number_lem : (h : Header) (file image : List ℕ) (axis : ℕ) (index out o : List ℕ) (r : Refusal)
-    → CopiesRecord h file image axis index out (Refused r) o → record_line_number r.number ≡ true
+    → CopiesRecord h file image axis index out (Err r) o → record_line_number (number_of r.rule) ≡ true
 record_line_number_lem h file image axis index out o r c =
     let v = record_verdict h (length file) (length image) axis index (length out) in
     let p = decided-refused v copied_never (sym c.0) in

@@ -1,4 +1,6 @@
 -- What the engines copy: a line's bytes are those that lie along its course, and each voxel's are in the file.
+use Rattle.refusal.specs.Table.{no_refusal}
+use Rattle.std.specs.Prelude.{Ok, Err, Result}
 use Prim.Native.Nat.{ℕ, ◌+◌, ◌*◌, ◌≤◌, ◌<◌}
 use mathlib.Core.Path.{◌≡◌, sym, ap, ◌∙◌}
 use mathlib.Core.List.{List, [], ◌∷◌}
@@ -6,7 +8,6 @@ use native.Mathlib.Nat.{add-zero, zero-mul, mul_comm}
 use native.Mathlib.Omega.{arith}
 use lib.ListN.{length, take, drop, length-take, length-drop}
 use Rattle.refusal.specs.declared.Refusal.{Refusal}
-use Rattle.refusal.specs.declared.Verdict.TheVariants.{Accepted}
 use Rattle.refusal.proofs.Rows.{decided_accepted, decided-refused}
 use Rattle.buffer.specs.Put.{put}
 use Rattle.rules.specs.Rules.{holder}
@@ -18,20 +19,8 @@ use Rattle.voxel.specs.declared.Volume.{Volume}
 use Rattle.voxel.specs.Steps.{first_step, extent_by, stepped_by}
 use Rattle.by_file.specs.Files.{part_of}
 use Rattle.line_plan.specs.declared.Course.{Course}
-use Rattle.line_plan.specs.declared.Planned.{Planned}
-use Rattle.line_plan.specs.declared.Planned.TheVariants.{Along, Unlined}
 use Rattle.line_plan.specs.Line.{with_number, along, count_along, course_of, volume_verdict, planned_by, Lies}
-use Rattle.line_copy.specs.declared.Lined.TheVariants.{Copied, Refused}
 use Rattle.line_copy.specs.Copied.{line_in, CopiesIn, line_bytes, Holds}
-
-along_never {ℓ} : {A : Type ℓ} {c : Course} {r : Refusal} → Along c ≡ Unlined r → A
-along_never e = let z : ◌≡◌ {A = ℕ} 0 1 = cc in absurd (omega arith)
-
-along_same : {c d : Course} → Along c ≡ Along d → c ≡ d
-along_same e = cc
-
-unlined_same : {q r : Refusal} → Unlined q ≡ Unlined r → q ≡ r
-unlined_same e = cc
 
 -- ---- the bytes of a line
 
@@ -86,25 +75,24 @@ module _ (v : Volume) (src : List ℕ) (image axis : ℕ) (index : List ℕ) (ou
 -- ---- what the call leaves, by what was planned
 
 module _ (v : Volume) (file image : List ℕ) (axis : ℕ) (index out : List ℕ) where
-  abbrev plan : Planned
+  abbrev plan : Result Course Refusal
   plan = planned_by v (length file) (length image) axis index (length out)
 
-  pub copies_none : (r : Refusal) → plan ≡ Unlined r → CopiesIn v file image axis index out (Refused r) out
+  pub copies_none : (r : Refusal) → plan ≡ Err r → CopiesIn v file image axis index out (Err r) out
   unfolding planned_by
   copies_none r e =
-      let p = decided-refused (volume_verdict v (length file) (length image) axis index (length out)) (λ d. along_never d) e in
-      let same : p.0 ≡ r = unlined_same p.2 in
-      (rw p.1 (ap Refused (sym same)), rw p.1)
+      let p = decided-refused (volume_verdict v (length file) (length image) axis index (length out)) (λ d. absurd cc) e in
+      (rw p.1 (ap Err (sym cc)), rw p.1)
 
-  pub planned_along : (c : Course) → plan ≡ Along c
-      → (volume_verdict v (length file) (length image) axis index (length out) ≡ Accepted) × (course_of v axis index ≡ c)
+  pub planned_along : (c : Course) → plan ≡ Ok c
+      → (volume_verdict v (length file) (length image) axis index (length out) ≡ no_refusal) × (course_of v axis index ≡ c)
   unfolding planned_by
   planned_along c e =
-      let p = decided_accepted (volume_verdict v (length file) (length image) axis index (length out)) (λ r d. along_never (sym d)) e in
-      (p.0, along_same p.1)
+      let p = decided_accepted (volume_verdict v (length file) (length image) axis index (length out)) (λ r d. absurd cc) e in
+      (p.0, cc)
 
-  pub copies_all : (n : ℕ) (out' src : List ℕ) → volume_verdict v (length file) (length image) axis index (length out) ≡ Accepted
+  pub copies_all : (n : ℕ) (out' src : List ℕ) → volume_verdict v (length file) (length image) axis index (length out) ≡ no_refusal
       → holder v.kind file image ≡ src → out' ≡ put out 0 (line_bytes v src (length image) axis index)
-      → n ≡ length (line_bytes v src (length image) axis index) → CopiesIn v file image axis index out (Copied n) out'
+      → n ≡ length (line_bytes v src (length image) axis index) → CopiesIn v file image axis index out (Ok n) out'
   unfolding line_in along put
-  copies_all n out' src a e eo en = rw (a, e) (ap Copied en, eo)
+  copies_all n out' src a e eo en = rw (a, e) (ap Ok en, eo)

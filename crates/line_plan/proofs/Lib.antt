@@ -1,3 +1,2 @@
 -- Where the voxels of a line are.
-mod Judging
 pub mod Places

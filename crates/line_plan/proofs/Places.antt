@@ -1,5 +1,6 @@
 -- An index with another number on one axis: it is inside where the number is, and the bytes before its voxel grow by the step of the axis. So a
 -- line's voxels lie one step from the next, and all are voxels of the image where the last one is.
+use Rattle.refusal.specs.declared.Rule.TheVariants.{AxisCount}
 use Prim.Native.Nat.{ℕ, zero, suc, ◌+◌, ◌-◌, ◌*◌, ◌≤◌, ◌<◌}
 use mathlib.Core.Path.{◌≡◌, refl, sym, ap, ◌∙◌}
 use mathlib.Core.Bool.{true, false, false≢true}
@@ -10,22 +11,21 @@ use borrow.Author.Tests.{ltb-false, lt-ltb, not-false}
 use lib.Dec.{ltb}
 use lib.IntN.{ℤ}
 use lib.ListN.{length, set, get_or}
-use Rattle.refusal.specs.declared.Verdict.TheVariants.{Accepted}
-use Rattle.refusal.specs.Table.{row}
+use Rattle.refusal.specs.Table.{row, no_refusal}
 use Rattle.refusal.proofs.Rows.{Clear, none, one, accepted_clear}
 use Rattle.grid.specs.Grid.{within}
 use Rattle.grid.specs.Axes.{dim_at, image_limit, capped, seven_axes}
-use Rattle.grid.specs.Sizes.{bytes_before}
+use Rattle.grid.specs.Sizes.{bytes_before, Reaches}
 use Rattle.grid.proofs.Axes.{seven_at}
 use Rattle.grid.proofs.Bounds.{seven_length, within-length}
 use Rattle.grid.proofs.Limit.{capped-sum}
 use Rattle.grid.proofs.Voxels.{within_both}
-use Rattle.rules.specs.Rules.{axis_count, holder}
+use Rattle.rules.specs.Rules.{axis_count, offset_outside, holder}
 use Rattle.rules.proofs.Passed.{neither, image_held}
 use Rattle.rules.proofs.Sizes.{axes_few}
 use Rattle.voxel.specs.declared.Volume.{Volume}
-use Rattle.voxel.specs.Steps.{image_at, first_step, strays, no_axes}
-use Rattle.voxel.proofs.Stepping.{stays, inside_stays, stepped_at}
+use Rattle.voxel.specs.Steps.{image_at, first_step, strays_by, strays, no_axes}
+use Rattle.voxel.proofs.Stepping.{stays, inside_stays, strays_like, stepped_at}
 use Rattle.line_plan.specs.Line.{with_number, count_along, axis_outside, line_outside, last_along, widest, line_rows, volume_verdict, Lies}
 
 -- ---- another number on one axis
@@ -163,14 +163,43 @@ module _ (v : Volume) (axis : ℕ) (index : List ℕ) (seven : length v.sizes.st
       let s = stays v.sizes.total (bytes_before steps (with_number axis index (count - 1))) (first_step v) kept in
       (omega (arith, s, last_before, own_before), omega (arith, s, last_before, own_before))
 
+-- By a sum `before` that rule 10 does not tell from the bytes before the voxel of the index: the sum for the line's last voxel decides 26, and
+-- where that passes the first one's place is exact.
+pub record Sums (v : Volume) (axis : ℕ) (index : List ℕ) (before : ℕ) : Type 0 where
+  pub first : 1 ≤ axis
+  pub last : axis ≤ 7
+  pub own : get_or index (axis - 1) 0 < count_along v.dim axis
+  pub small : before ≤ 7 * (32767 * (image_limit + 1))
+  pub far : strays_by v.sizes.total (before + (count_along v.dim axis - 1 - get_or index (axis - 1) 0) * capped (get_or v.sizes.steps (axis - 1) 0)) (first_step v)
+      ≡ strays v (last_along v axis index)
+  pub exact : strays v (last_along v axis index) ≡ false
+      → (before ≡ bytes_before v.sizes.steps (with_number axis index 0) + get_or index (axis - 1) 0 * get_or v.sizes.steps (axis - 1) 0)
+      × (before ≤ image_limit)
+
+pub sums : (v : Volume) (axis : ℕ) (index : List ℕ) (before : ℕ) → length v.sizes.steps ≡ 7
+    → (no_axes v.dim ≡ false) × (offset_outside v.kind v.offset 0 ≡ false) × (line_outside v.dim axis index ≡ false)
+    × Reaches (seven_axes v.dim (axis_count v.dim)) v.sizes.steps index before
+    → Sums v axis index before
+sums v axis index before seven (two, nine, passed, r) =
+    let inside = line_inside v.dim axis index two passed in
+    let like = r.inside inside.given in
+    record {
+      first = inside.first;
+      last = omega (arith, inside.last, inside.few);
+      own = inside.own;
+      small = r.small inside.given;
+      far = strays_like v.sizes.total (first_step v) _ _ (last_like v axis index seven inside before like);
+      exact = first_exact v axis index seven inside before like;
+    }
+
 -- a line that none of the rules refuses, of a file and an image file
 pub line_lies : (v : Volume) (file image : List ℕ) (axis : ℕ) (index : List ℕ) (out : ℕ) → length v.sizes.steps ≡ 7
-    → volume_verdict v (length file) (length image) axis index out ≡ Accepted
+    → volume_verdict v (length file) (length image) axis index out ≡ no_refusal
     → Lies v (length (holder v.kind file image)) (length image) axis index out
 line_lies v file image axis index out seven a =
-    by (accepted_clear (row 2 (no_axes v.dim) 40 ∷ line_rows v (length file) (length image) axis index out) a)
+    by (accepted_clear (row AxisCount (no_axes v.dim) 40 ∷ line_rows v (length file) (length image) axis index out) a)
   where
-    by : Clear (row 2 (no_axes v.dim) 40 ∷ line_rows v (length file) (length image) axis index out)
+    by : Clear (row AxisCount (no_axes v.dim) 40 ∷ line_rows v (length file) (length image) axis index out)
         → Lies v (length (holder v.kind file image)) (length image) axis index out
     by (one two (one nine (one eleven (one sixteen (one seventeen (one sizes (one room none))))))) =
         let inside = line_inside v.dim axis index two seventeen in

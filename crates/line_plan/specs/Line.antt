@@ -1,8 +1,9 @@
 -- A line of voxels (02-change-requests.md, P7): which they are, the rules, and where their bytes are by the sizes that a record keeps. Any
 -- record has an answer; the crate line has it of files.
-use Rattle.std.specs.Prelude.{ℕ, ◌+◌, ◌-◌, ◌*◌, ◌≤◌, ◌<◌, ◌≡◌, Bool, not, ◌||◌, List, [], ◌∷◌, ltb, ℤ, set, get_or}
-use Rattle.refusal.specs.declared.Verdict.{Verdict}
-use Rattle.refusal.specs.Table.{Row, row, verdict, decided}
+use Rattle.refusal.specs.declared.Rule.TheVariants.{AxisCount, OffsetOutside, FileCut, ImageCut, IndexOutside, ShortBuffer, WrongRecord}
+use Rattle.refusal.specs.declared.Refusal.{Refusal}
+use Rattle.std.specs.Prelude.{ℕ, ◌+◌, ◌-◌, ◌*◌, ◌≤◌, ◌<◌, ◌≡◌, Bool, not, ◌||◌, List, [], ◌∷◌, ltb, ℤ, set, get_or, Ok, Err, Result}
+use Rattle.refusal.specs.Table.{Row, row, verdict, decided, Verdict}
 use Rattle.number.specs.Natural.{natural_of}
 use Rattle.grid.specs.Grid.{within}
 use Rattle.grid.specs.Axes.{dim_at, seven_axes}
@@ -10,11 +11,8 @@ use Rattle.grid.specs.Sizes.{bytes_before}
 use Rattle.rules.specs.Rules.{axis_count, offset_outside, cut_short, image_cut}
 use Rattle.gather_row.specs.Series.{series}
 use Rattle.voxel.specs.declared.Volume.{Volume}
-use Rattle.voxel.specs.declared.Located.TheVariants.{At}
 use Rattle.voxel.specs.Steps.{image_at, first_step, extent_by, strays, no_axes, stepped_by}
 use Rattle.line_plan.specs.declared.Course.{Course}
-use Rattle.line_plan.specs.declared.Planned.{Planned}
-use Rattle.line_plan.specs.declared.Planned.TheVariants.{Along, Unlined}
 
 -- "all voxels along one axis through a given voxel": the voxel's index with k as its number on the axis, the first of which is 1
 unfoldable pub with_number : ℕ → List ℕ → ℕ → List ℕ
@@ -52,12 +50,12 @@ line_strays v axis index = strays v (last_along v axis index) || ltb widest (fir
 -- what is judged of a volume, the lengths of the file, the image file and the buffer, the voxel and the axis: 9 to 26, and "then 22"
 abbrev pub line_rows : Volume → ℕ → ℕ → ℕ → List ℕ → ℕ → List Row
 line_rows v file image axis index out =
-    row 9 (offset_outside v.kind v.offset 0) 108
-    ∷ row 11 (cut_short v.kind file (image_at v)) 108
-    ∷ row 16 (image_cut v.kind image (image_at v)) 0
-    ∷ row 17 (line_outside v.dim axis index) 0
-    ∷ row 26 (line_strays v axis index) 0
-    ∷ row 22 (ltb out (count_along v.dim axis * first_step v)) 0
+    row OffsetOutside (offset_outside v.kind v.offset 0) 108
+    ∷ row FileCut (cut_short v.kind file (image_at v)) 108
+    ∷ row ImageCut (image_cut v.kind image (image_at v)) 0
+    ∷ row IndexOutside (line_outside v.dim axis index) 0
+    ∷ row WrongRecord (line_strays v axis index) 0
+    ∷ row ShortBuffer (ltb out (count_along v.dim axis * first_step v)) 0
     ∷ []
 
 -- where the voxels are: the place of the first, and from each to the next the step of the axis
@@ -71,27 +69,27 @@ course_of v axis index =
 
 -- 2 is tried first
 abbrev pub volume_verdict : Volume → ℕ → ℕ → ℕ → List ℕ → ℕ → Verdict
-volume_verdict v file image axis index out = verdict (row 2 (no_axes v.dim) 40 ∷ line_rows v file image axis index out)
+volume_verdict v file image axis index out = verdict (row AxisCount (no_axes v.dim) 40 ∷ line_rows v file image axis index out)
 
-unfoldable pub planned_by : Volume → ℕ → ℕ → ℕ → List ℕ → ℕ → Planned
-planned_by v file image axis index out = decided (volume_verdict v file image axis index out) (Along (course_of v axis index)) Unlined
+unfoldable pub planned_by : Volume → ℕ → ℕ → ℕ → List ℕ → ℕ → Result Course Refusal
+planned_by v file image axis index out = decided (volume_verdict v file image axis index out) (Ok (course_of v axis index)) Err
 
 -- ---- What only the steps between cite
 
 -- the rows up to 16, those from 17 on, and those after it
 abbrev pub place_rows : Volume → ℕ → ℕ → List Row
 place_rows v file image =
-    row 2 (no_axes v.dim) 40
-    ∷ row 9 (offset_outside v.kind v.offset 0) 108
-    ∷ row 11 (cut_short v.kind file (image_at v)) 108
-    ∷ row 16 (image_cut v.kind image (image_at v)) 0
+    row AxisCount (no_axes v.dim) 40
+    ∷ row OffsetOutside (offset_outside v.kind v.offset 0) 108
+    ∷ row FileCut (cut_short v.kind file (image_at v)) 108
+    ∷ row ImageCut (image_cut v.kind image (image_at v)) 0
     ∷ []
 
 abbrev pub size_rows : Volume → ℕ → List ℕ → ℕ → List Row
-size_rows v axis index out = row 26 (line_strays v axis index) 0 ∷ row 22 (ltb out (count_along v.dim axis * first_step v)) 0 ∷ []
+size_rows v axis index out = row WrongRecord (line_strays v axis index) 0 ∷ row ShortBuffer (ltb out (count_along v.dim axis * first_step v)) 0 ∷ []
 
 abbrev pub own_rows : Volume → ℕ → List ℕ → ℕ → List Row
-own_rows v axis index out = row 17 (line_outside v.dim axis index) 0 ∷ size_rows v axis index out
+own_rows v axis index out = row IndexOutside (line_outside v.dim axis index) 0 ∷ size_rows v axis index out
 
 -- what a line is like that none of the rules refuses: in a file of `size` bytes that holds the image, with an image file of `image` bytes and a
 -- buffer of `out`
@@ -102,7 +100,7 @@ pub record Lies (v : Volume) (size image axis : ℕ) (index : List ℕ) (out : �
   pub wide : first_step v ≤ widest
   -- each voxel is located, a step from the one before, in the file
   pub located : (k : ℕ) → k < count_along v.dim axis
-      → stepped_by v image (with_number axis index k) ≡ At (extent_by v (with_number axis index k))
+      → stepped_by v image (with_number axis index k) ≡ Ok (extent_by v (with_number axis index k))
   pub stepped : (k : ℕ)
       → bytes_before v.sizes.steps (with_number axis index k)
       ≡ bytes_before v.sizes.steps (with_number axis index 0) + k * get_or v.sizes.steps (axis - 1) 0

@@ -2,7 +2,7 @@
 // by the sizes that a record keeps.
 #![tactic(auto)]
 
-ghost use Rattle.std.specs.Prelude.{◌≡◌, false, ◌-◌, ◌≤◌, length, get_or};
+ghost use Rattle.std.specs.Prelude.{◌≡◌, false, Ok, Err};
 ghost use Rattle.refusal.specs.Table.{verdict, decided};
 ghost use Rattle.grid.specs.Axes.{seven_axes};
 ghost use Rattle.grid.specs.Sizes.{Reaches};
@@ -11,7 +11,7 @@ ghost use Rattle.voxel.specs.Steps.{no_axes};
 ghost use Rattle.line_plan.specs.Line.{line_outside, course_of, planned_by, place_rows, own_rows, size_rows};
 
 use gather_row::Axis;
-use refusal::{Refusal, Verdict};
+use refusal::{Refusal, Rule};
 use rules::Image;
 use voxel::Volume;
 
@@ -27,86 +27,58 @@ pub struct Course {
     pub bytes: usize,
 }
 
-#[derive(Clone, Copy)]
-pub enum Planned {
-    Along(Course),
-    Unlined(Refusal),
-}
-
-fn refused(number: u64, place: usize) -> Verdict
-    ensures { result ≡ Verdict.Refused (record { number = number; place = place }) }
-{
-    Verdict::Refused(Refusal { number, place })
-}
-
-fn unlined(number: u64) -> Planned
-    ensures { result ≡ Planned.Unlined (record { number = number; place = 0 }) }
-{
-    Planned::Unlined(Refusal { number, place: 0 })
-}
-
-// Of seven numbers, one for each axis, that of an axis; the first has number 1.
-fn of_axis(numbers: &[u64], axis: usize) -> u64
-    requires { (1 ≤ axis) × (axis ≤ 7) × (length numbers.now ≡ 7) }
-    ensures { result ≡ get_or numbers.now (axis - 1) 0 }
-{
-    numbers[axis - 1]
-}
-
 // The rules up to 16, with a file and an image file of these lengths.
-fn judge(v: Volume, file: usize, image: usize) -> Verdict
+#[tactic(auto, unfolding(refusal::specs::Table::verdict))]
+fn judge(v: Volume, file: usize, image: usize) -> Result<(), Refusal>
     ensures { result ≡ verdict (place_rows v file image) }
 {
-    let dim = v.dim;
-    let sizes = v.sizes;
-    let kind = v.kind;
     let place = Image {
         offset: v.offset,
-        bytes: sizes.total,
+        bytes: v.sizes.total,
     };
-    if voxel::no_axes(&dim) {
-        return refused(2, 40);
+    if voxel::no_axes(&v.dim) {
+        return Err(Rule::AxisCount.at(40));
     }
-    if rules::offset_outside(kind, v.offset, 0) {
-        return refused(9, 108);
+    if rules::offset_outside(v.kind, v.offset, 0) {
+        return Err(Rule::OffsetOutside.at(108));
     }
-    if bounds::cut_short(kind, file, place) {
-        return refused(11, 108);
+    if bounds::cut_short(v.kind, file, place) {
+        return Err(Rule::FileCut.at(108));
     }
-    if bounds::image_cut(kind, image, place) {
-        return refused(16, 0);
+    if bounds::image_cut(v.kind, image, place) {
+        return Err(Rule::ImageCut.at(0));
     }
-    Verdict::Accepted
+    Ok(())
 }
 
 // The rules after 17, with a buffer of `out` bytes, and the line's course, where the index is inside and `before` bytes of the image, as far as
 // rule 10 tells, are before its voxel. The products are those of the place of the first voxel, of the last one and of the bytes in all.
-fn course_of(v: Volume, axis: usize, index: [u64; 7], before: u64, out: usize) -> Planned
+fn course_of(
+    v: Volume,
+    axis: usize,
+    index: [u64; 7],
+    before: u64,
+    out: usize,
+) -> Result<Course, Refusal>
     requires { (no_axes v.dim ≡ false) × (offset_outside v.kind v.offset 0 ≡ false)
         × (line_outside v.dim axis index ≡ false)
         × Reaches (seven_axes v.dim (axis_count v.dim)) v.sizes.steps index before }
-    ensures { result ≡ decided (verdict (size_rows v axis index out)) (Planned.Along (course_of v axis index)) Planned.Unlined }
+    ensures { result ≡ decided (verdict (size_rows v axis index out)) (Ok (course_of v axis index)) Err }
 {
-    let dim = v.dim;
-    let sizes = v.sizes;
-    let steps = sizes.steps;
-    let i = of_axis(&index, axis);
-    let step = of_axis(&steps, axis);
-    let count = grid::axis_length(&dim, axis);
-    let bytes = steps[0];
+    let i = index[axis - 1];
+    let step = v.sizes.steps[axis - 1];
+    let count = grid::axis_length(&v.dim, axis);
+    let bytes = v.sizes.steps[0];
     let last = before + (count - 1 - i) * grid::limited(step);
-    if voxel::strays(sizes.total, last, bytes) {
-        return unlined(26);
-    }
-    if WIDEST < bytes {
-        return unlined(26);
+    if voxel::strays(v.sizes.total, last, bytes) || WIDEST < bytes {
+        return Err(Rule::WrongRecord.at(0));
     }
     if (out as u64) < count * bytes {
-        return unlined(22);
+        return Err(Rule::ShortBuffer.at(0));
     }
-    let past = i * step;
-    Planned::Along(Course {
-        from: (v.offset + (before - past)) as usize,
+    let first = before - i * step;
+    Ok(Course {
+        from: (v.offset + first) as usize,
         axis: Axis {
             length: count as usize,
             up: step as usize,
@@ -117,31 +89,37 @@ fn course_of(v: Volume, axis: usize, index: [u64; 7], before: u64, out: usize) -
 }
 
 // 17, of the axis number and of the index, and then the rest.
-fn along(v: Volume, axis: u64, index: [u64; 7], out: usize) -> Planned
+#[inline(always)]
+#[tactic(auto, unfolding(refusal::specs::Table::verdict))]
+fn along(v: Volume, axis: u64, index: [u64; 7], out: usize) -> Result<Course, Refusal>
     requires { (no_axes v.dim ≡ false) × (offset_outside v.kind v.offset 0 ≡ false) }
-    ensures { result ≡ decided (verdict (own_rows v axis index out)) (Planned.Along (course_of v axis index)) Planned.Unlined }
+    ensures { result ≡ decided (verdict (own_rows v axis index out)) (Ok (course_of v axis index)) Err }
 {
-    let dim = v.dim;
-    let sizes = v.sizes;
-    let steps = sizes.steps;
-    let n = rules::axis_count(&dim);
-    if (axis < 1) | ((n as u64) < axis) {
-        return unlined(17);
+    let n = rules::axis_count(&v.dim);
+    if axis < 1 || (n as u64) < axis {
+        return Err(Rule::IndexOutside.at(0));
     }
-    let before = sizes::bytes_before(&dim, n, &steps, &index);
+    let before = sizes::bytes_before(&v.dim, n, &v.sizes.steps, &index);
     if before == sizes::OUTSIDE {
-        return unlined(17);
+        return Err(Rule::IndexOutside.at(0));
     }
     course_of(v, axis as usize, index, before, out)
 }
 
-// The course of the line along the axis through the voxel of an index; or the refusal.
-pub fn plan(v: Volume, file: usize, image: usize, axis: u64, index: [u64; 7], out: usize) -> Planned
+// The course of the line along the axis through the voxel of an index; or the refusal. Inlined, since lines are drawn in a loop
+// and it is called once for each engine.
+#[inline(always)]
+#[tactic(auto, unfolding(crate::specs::Line::planned_by, refusal::specs::Table::verdict))]
+pub fn plan(
+    v: Volume,
+    file: usize,
+    image: usize,
+    axis: u64,
+    index: [u64; 7],
+    out: usize,
+) -> Result<Course, Refusal>
     ensures { result ≡ planned_by v file image axis index out }
 {
-    let judged = judge(v, file, image);
-    match judged {
-        Verdict::Refused(r) => Planned::Unlined(r),
-        Verdict::Accepted => along(v, axis, index, out),
-    }
+    judge(v, file, image)?;
+    along(v, axis, index, out)
 }

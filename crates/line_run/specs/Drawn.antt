@@ -1,19 +1,17 @@
 -- Lines along an axis, through the first voxels of axis 1 one after the other, each written over the one before (02-change-requests.md, P7).
-use Rattle.std.specs.Prelude.{ℕ, zero, suc, max, List, [], ◌∷◌, length}
-use Rattle.refusal.specs.declared.Verdict.{Verdict}
-use Rattle.refusal.specs.Table.{decided}
+use Rattle.refusal.specs.declared.Refusal.{Refusal}
+use Rattle.std.specs.Prelude.{ℕ, zero, suc, max, List, [], ◌∷◌, length, Ok, Err, Result}
+use Rattle.refusal.specs.Table.{decided, Verdict}
 use Rattle.header.specs.declared.Header.{Header}
 use Rattle.reader.specs.Reading.{reading_of}
 use Rattle.voxel.specs.Steps.{volume_of}
-use Rattle.line_copy.specs.declared.Lined.{Lined}
-use Rattle.line_copy.specs.declared.Lined.TheVariants.{Copied, Refused}
 use Rattle.line_copy.specs.Copied.{line_answer_by, line_out_by, line_in}
 use Rattle.line.specs.Lines.{record_verdict}
 
 -- a refused line counts as 0
-abbrev pub bytes_of : Lined → ℕ
-bytes_of (Copied n) = n
-bytes_of (Refused r) = 0
+abbrev pub bytes_of : Result ℕ Refusal → ℕ
+bytes_of (Ok n) = n
+bytes_of (Err r) = 0
 
 -- the voxel that line k goes through
 abbrev pub through : ℕ → List ℕ

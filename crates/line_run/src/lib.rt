@@ -3,59 +3,34 @@
 #![tactic(auto)]
 
 ghost use Rattle.std.specs.Prelude.{◌≡◌};
-ghost use Rattle.line_run.specs.Drawn.{bytes_of, most_in, out_in, most, out_after};
+ghost use Rattle.line_run.specs.Drawn.{most_in, out_in, most, out_after};
 
 use header::Header;
-use line_copy::{Engine, Lined};
-use refusal::Verdict;
+use line_copy::{Engine, Steps, Voxels};
 
-// The bytes of a line, and 0 where it is refused.
-fn bytes_of(lined: Lined) -> usize
-    ensures { result ≡ bytes_of lined }
-{
-    match lined {
-        Lined::Copied(n) => n,
-        Lined::Refused(_) => 0,
-    }
-}
-
-// By a record that was read before; each line is written over the one before.
-fn run_in(
-    header: Header,
-    file: &[u8],
-    axis: u64,
-    count: u64,
-    out: &mut [u8],
-    engine: Engine,
-) -> usize
+// By a record that was read before; each line is written over the one before, and a refused one has no bytes.
+fn run_in<E: Engine>(header: Header, file: &[u8], axis: u64, count: u64, out: &mut [u8]) -> usize
     ensures { (result ≡ most_in header file.now axis count out.old)
         × (out.new ≡ out_in header file.now axis count out.old) }
 {
-    let none = [0u8; 0];
     let mut most = 0;
-    let mut k = 0;
-    while k < count {
+    for k in 0..count {
         let index = [k, 0, 0, 0, 0, 0, 0];
-        let lined = line::line_in(header, file, &none, axis, index, out, engine);
-        most = number::greater(most, bytes_of(lined));
-        k += 1;
+        let lined = line::line_in::<E>(header, file, &[], axis, index, out);
+        most = most.max(lined.unwrap_or(0));
     }
     most
 }
 
 // The file is read once.
-fn run(file: &[u8], axis: u64, count: u64, out: &mut [u8], engine: Engine) -> u64
+fn run<E: Engine>(file: &[u8], axis: u64, count: u64, out: &mut [u8]) -> u64
     ensures { (result ≡ most file.now axis count out.old)
         × (out.new ≡ out_after file.now axis count out.old) }
 {
     let reading = reader::read(file);
-    let verdict = reading.verdict;
-    match verdict {
-        Verdict::Refused(_) => 0,
-        Verdict::Accepted => {
-            let header = reading.header;
-            run_in(header, file, axis, count, out, engine) as u64
-        }
+    match reading.verdict {
+        Err(_) => 0,
+        Ok(()) => run_in::<E>(reading.header, file, axis, count, out) as u64,
     }
 }
 
@@ -65,7 +40,7 @@ pub extern "C" fn line_run_by_steps(file: &[u8], axis: u64, count: u64, out: &mu
     ensures { (result ≡ most file.now axis count out.old)
         × (out.new ≡ out_after file.now axis count out.old) }
 {
-    run(file, axis, count, out, Engine::Steps)
+    run::<Steps>(file, axis, count, out)
 }
 
 // The same, each voxel located by itself.
@@ -74,5 +49,5 @@ pub extern "C" fn line_run_by_voxel(file: &[u8], axis: u64, count: u64, out: &mu
     ensures { (result ≡ most file.now axis count out.old)
         × (out.new ≡ out_after file.now axis count out.old) }
 {
-    run(file, axis, count, out, Engine::Voxels)
+    run::<Voxels>(file, axis, count, out)
 }

@@ -1,4 +1,4 @@
-// Prints lines of voxels of the file that is on standard input, by both calls on a file and by the call on its record (02-change-requests.md, P7):
+// Prints lines of voxels of the file that is on standard input, by both engines on a file and by the call on its record (02-change-requests.md, P7):
 // through one voxel along each axis, into buffers that are longer, as long and a byte short, and with arguments that are refused. The whole
 // buffer is printed; what is not written stays 238. What is to be printed stands in the file stdout.
 //
@@ -7,124 +7,49 @@
 //       + struct.pack("<24h", *range(24)))' > ../crates/line_table/stdin
 #![tactic(auto)]
 
-use line_copy::{Engine, Lined};
+use line_copy::{Steps, Voxels};
+use refusal::Refusal;
 use std::io;
 
-fn say(rt: &impl Print, text: &[u8]) -> io::Result<()> {
-    rt.write_all(text)
-}
-
-fn say_number(rt: &impl Print, n: u64) -> io::Result<()> {
-    print!(rt; " {n}")
-}
-
-fn say_byte(rt: &impl Print, b: u8) -> io::Result<()> {
-    say_number(rt, b as u64)
-}
-
-fn print_bytes(rt: &impl Print, part: &[u8]) -> io::Result<()> {
-    for b in part {
-        say_byte(rt, *b)?;
-    }
-    say(rt, b"\n")
-}
-
-fn print_lined(rt: &impl Print, name: &[u8], lined: Lined, buffer: &[u8]) -> io::Result<()> {
-    say(rt, name)?;
+fn print_lined(
+    rt: &impl Print,
+    name: &str,
+    lined: Result<usize, Refusal>,
+    buffer: &[u8],
+) -> io::Result<()> {
     match lined {
-        Lined::Copied(n) => {
-            say(rt, b" copied")?;
-            say_number(rt, n as u64)?;
-        }
-        Lined::Refused(r) => {
-            say(rt, b" refused")?;
-            say_number(rt, r.number)?;
-            say(rt, b" at")?;
-            say_number(rt, r.place as u64)?;
-        }
+        Ok(n) => print!(rt; "{name} copied {n}:")?,
+        Err(r) => print!(rt; "{name} {r}:")?,
     }
-    say(rt, b":")?;
-    print_bytes(rt, buffer)
+    for b in buffer {
+        print!(rt; " {b}")?;
+    }
+    println!(rt;)
 }
 
-fn by_steps(
-    rt: &impl Print,
-    file: &[u8],
-    axis: u64,
-    i: u64,
-    j: u64,
-    k: u64,
-    t: u64,
-    out: &mut [u8],
-) -> io::Result<()> {
-    let none = [0u8; 0];
-    let lined = line::line(file, &none, axis, i, j, k, t, 0, 0, 0, out);
-    print_lined(rt, b"by steps", lined, out)
-}
-
-fn by_voxel(
-    rt: &impl Print,
-    file: &[u8],
-    axis: u64,
-    i: u64,
-    j: u64,
-    k: u64,
-    t: u64,
-    out: &mut [u8],
-) -> io::Result<()> {
-    let none = [0u8; 0];
-    let lined = line::line_by_voxel(file, &none, axis, i, j, k, t, 0, 0, 0, out);
-    print_lined(rt, b"by voxel", lined, out)
-}
-
-fn by_record(
-    rt: &impl Print,
-    file: &[u8],
-    axis: u64,
-    i: u64,
-    j: u64,
-    k: u64,
-    t: u64,
-    out: &mut [u8],
-) -> io::Result<()> {
-    let none = [0u8; 0];
-    let reading = reader::read(file);
-    let header = reading.header;
-    let index = [i, j, k, t, 0, 0, 0];
-    let lined = line::line_in(header, file, &none, axis, index, out, Engine::Steps);
-    print_lined(rt, b"by record", lined, out)
-}
-
-// The line by each call, into a buffer of `room` bytes, of which there are at most 8.
+// The line by both engines and by the record, into a buffer of `room` bytes, of which there are at most 8.
 fn print_line(
     rt: &impl Print,
     file: &[u8],
     room: usize,
     axis: u64,
-    i: u64,
-    j: u64,
-    k: u64,
-    t: u64,
+    index: [u64; 7],
 ) -> io::Result<()> {
     if 8 < room {
         return Ok(());
     }
-    say(rt, b"axis")?;
-    say_number(rt, axis)?;
-    say(rt, b" through")?;
-    say_number(rt, i)?;
-    say_number(rt, j)?;
-    say_number(rt, k)?;
-    say_number(rt, t)?;
-    say(rt, b" into")?;
-    say_number(rt, room as u64)?;
-    say(rt, b"\n")?;
-    let mut a = [238u8; 8];
-    by_steps(rt, file, axis, i, j, k, t, &mut a[0..room])?;
-    let mut b = [238u8; 8];
-    by_voxel(rt, file, axis, i, j, k, t, &mut b[0..room])?;
-    let mut c = [238u8; 8];
-    by_record(rt, file, axis, i, j, k, t, &mut c[0..room])
+    let [i, j, k, t, ..] = index;
+    println!(rt; "axis {axis} through {i} {j} {k} {t} into {room}")?;
+    let mut out = [238u8; 8];
+    let lined = line::line::<Steps>(file, &[], axis, index, &mut out[..room]);
+    print_lined(rt, "by steps", lined, &out[..room])?;
+    let mut out = [238u8; 8];
+    let lined = line::line::<Voxels>(file, &[], axis, index, &mut out[..room]);
+    print_lined(rt, "by voxel", lined, &out[..room])?;
+    let mut out = [238u8; 8];
+    let header = reader::read(file).header;
+    let lined = line::line_in::<Steps>(header, file, &[], axis, index, &mut out[..room]);
+    print_lined(rt, "by record", lined, &out[..room])
 }
 
 fn main(rt: HostRuntime) -> io::Result<()> {
@@ -132,16 +57,21 @@ fn main(rt: HostRuntime) -> io::Result<()> {
     let mut buffer = [0u8; 401];
     let n = read_input::read_full(&rt, &mut buffer)?;
     let file = &buffer[..n];
-    print_line(&rt, file, 8, 1, 1, 1, 0, 1)?;
-    print_line(&rt, file, 8, 2, 1, 1, 0, 1)?;
-    print_line(&rt, file, 8, 3, 1, 1, 0, 1)?;
-    print_line(&rt, file, 8, 4, 1, 1, 0, 1)?;
-    print_line(&rt, file, 6, 1, 1, 1, 0, 1)?;
-    print_line(&rt, file, 5, 1, 1, 1, 0, 1)?;
-    print_line(&rt, file, 8, 0, 1, 1, 0, 1)?;
-    print_line(&rt, file, 8, 5, 1, 1, 0, 1)?;
-    print_line(&rt, file, 8, 18446744073709551615, 1, 1, 0, 1)?;
-    print_line(&rt, file, 8, 1, 3, 1, 0, 1)?;
-    print_line(&rt, file, 8, 1, 1, 2, 0, 1)?;
-    print_line(&rt, file, 0, 0, 1, 1, 0, 1)
+    let through = [1, 1, 0, 1, 0, 0, 0];
+    for (room, axis) in [
+        (8, 1),
+        (8, 2),
+        (8, 3),
+        (8, 4),
+        (6, 1),
+        (5, 1),
+        (8, 0),
+        (8, 5),
+        (8, u64::MAX),
+    ] {
+        print_line(&rt, file, room, axis, through)?;
+    }
+    print_line(&rt, file, 8, 1, [3, 1, 0, 1, 0, 0, 0])?;
+    print_line(&rt, file, 8, 1, [1, 2, 0, 1, 0, 0, 0])?;
+    print_line(&rt, file, 0, 0, through)
 }

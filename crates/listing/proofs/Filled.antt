@@ -1,5 +1,6 @@
 -- What is kept of a walk: all spans, in a list that is filled (`list`), or the place of the one that is wanted (`scan`). What each step
 -- does to it.
+use Rattle.std.specs.Prelude.{Ok, Some}
 use Prim.Native.Nat.{ℕ, zero, suc, ◌+◌, ◌<◌, ◌≤◌}
 use mathlib.Core.Path.{◌≡◌, refl, sym, ap, ◌∙◌}
 use mathlib.Core.Bool.{Bool, true, false}
@@ -13,7 +14,6 @@ use Rattle.field.specs.declared.Order.{Order}
 use Rattle.field.specs.Numbers.{i32_at}
 use Rattle.extension.specs.declared.Span.{Span}
 use Rattle.extension.specs.declared.Walker.{Walker}
-use Rattle.extension.specs.declared.Step.TheVariants.{Extension}
 use Rattle.extension.specs.Walk.{extension_limit, first_place, span, past, step_of, Walked, listed, extensions_in}
 use Rattle.extension.specs.Listing.{no_span, spans_of}
 use Rattle.extension.proofs.Regions.{length_rest}
@@ -32,7 +32,7 @@ pub record Filled (all : Walked) (file : List ℕ) (w : Walker) (spans : List Sp
   pub kept : spans ≡ spans_of so_far
 
 pub fill_turn : (all : Walked) (file : List ℕ) (w : Walker) (spans : List Span) → Filled all file w spans → (x : Span) (next : Walker)
-    → step_of file w ≡ Extension x next → Filled all file next (set spans w.count x)
+    → step_of file w ≡ Ok (Some (x, next)) → Filled all file next (set spans w.count x)
 fill_turn all file w spans f x next e =
     let p = f.passed in
     let m = (pass_room all file w f.so_far p x next e).0 in
@@ -68,7 +68,7 @@ pub record Kept (all : Walked) (file : List ℕ) (wanted : ℕ) (w : Walker) (pl
   pub whole : w.end ≤ length file
 
 pub keep_turn : (all : Walked) (file : List ℕ) (wanted : ℕ) (w : Walker) (place : ℕ) → Kept all file wanted w place → (x : Span) (next : Walker) (n : ℕ)
-    → step_of file w ≡ Extension x next → n ≡ kept_of w.count wanted x.start place → Kept all file wanted next n
+    → step_of file w ≡ Ok (Some (x, next)) → n ≡ kept_of w.count wanted x.start place → Kept all file wanted next n
 keep_turn all file wanted w place f x next n e d =
     let p = f.passed in
     let t = pass_taken all file w f.so_far p x next e in

@@ -1,4 +1,5 @@
 -- A walk on its way, whatever is kept of it: the extensions that the walker has passed and the walk that is left are the whole walk.
+use Rattle.std.specs.Prelude.{Ok, Err, Some, None, Result, Option}
 use Prim.Native.Nat.{ℕ, ◌+◌, ◌-◌, ◌<◌, ◌≤◌}
 use mathlib.Core.Path.{◌≡◌, refl, sym, ap, ◌∙◌}
 use mathlib.Core.List.{List, [], ◌∷◌, ◌++◌, append-nil}
@@ -8,7 +9,6 @@ use lib.Seq.{append_snoc, drop-drop}
 use Rattle.refusal.specs.declared.Refusal.{Refusal}
 use Rattle.extension.specs.declared.Span.{Span}
 use Rattle.extension.specs.declared.Walker.{Walker}
-use Rattle.extension.specs.declared.Step.TheVariants.{Extension, End, Halt}
 use Rattle.extension.specs.Walk.{extension_limit, first_place, rest_of, Found, extension, ended, refused, found, past, step_from, step_of}
 use Rattle.extension.specs.Walk.{Walked, listed, stopped, onto, walk, extensions_in}
 use Rattle.extension.proofs.Found.{Taken, taken}
@@ -38,18 +38,30 @@ pub pass_none : (file : List ℕ) (w : Walker) → w.at ≡ first_place → w.co
 unfolding extensions_in
 pass_none file w a n = record { counted = sym n; most = omega (arith, n); rest = rw (a, n) (after_none _) }
 
-pub stepped : (w next : Walker) (f : Found) (x : Span) → step_from w f ≡ Extension x next
-    → (f ≡ extension x) × (past w x ≡ next)
-stepped w next (extension y) x e = (cc, (cc))
-stepped w next ended x e = (cc, (cc))
-stepped w next (refused r) x e = (cc, (cc))
+-- what a step hands over, and else p
+abbrev taken_or : Span × Walker → Option (Span × Walker) → Span × Walker
+taken_or p (Some q) = q
+taken_or p None = p
 
-pub stepped_end : (w : Walker) (f : Found) → step_from w f ≡ End → f ≡ ended
+abbrev taken_in : Span × Walker → Result (Option (Span × Walker)) Refusal → Span × Walker
+taken_in p (Ok o) = taken_or p o
+taken_in p (Err r) = p
+
+pub stepped : (w next : Walker) (f : Found) (x : Span) → step_from w f ≡ Ok (Some (x, next))
+    → (f ≡ extension x) × (past w x ≡ next)
+stepped w next (extension y) x e =
+    let p : (y, past w y) ≡ (x, next) = ap (taken_in (y, past w y)) e in
+    let y_is : y ≡ x = ap (λ (q : Span × Walker). q.0) p in
+    (ap extension y_is, ap (past w) (sym y_is) ∙ ap (λ (q : Span × Walker). q.1) p)
+stepped w next ended x e = cc
+stepped w next (refused r) x e = cc
+
+pub stepped_end : (w : Walker) (f : Found) → step_from w f ≡ Ok None → f ≡ ended
 stepped_end w (extension y) e = cc
 stepped_end w ended e = refl
 stepped_end w (refused r) e = cc
 
-pub stepped_halt : (w : Walker) (f : Found) (r : Refusal) → step_from w f ≡ Halt r → f ≡ refused r
+pub stepped_halt : (w : Walker) (f : Found) (r : Refusal) → step_from w f ≡ Err r → f ≡ refused r
 stepped_halt w (extension y) r e = cc
 stepped_halt w ended r e = cc
 stepped_halt w (refused q) r e = cc
@@ -63,16 +75,16 @@ module _ (all : Walked) (file : List ℕ) (w : Walker) (so_far : List Span) (f :
   finds e = let n : before (before w.count) ≡ w.count = omega (arith, f.most) in rw n e
 
   -- a step to an extension, and the walker that it leaves
-  pub pass_taken : (x : Span) (next : Walker) → step_of file w ≡ Extension x next → Taken w.order w.count w.at rest x × (past w x ≡ next)
+  pub pass_taken : (x : Span) (next : Walker) → step_of file w ≡ Ok (Some (x, next)) → Taken w.order w.count w.at rest x × (past w x ≡ next)
   unfolding step_of
   pass_taken x next e =
       let s = stepped w next (found w.order w.count w.at rest) x e in
       (taken w.order w.count w.at rest x s.0, s.1)
 
-  pub pass_room : (x : Span) (next : Walker) → step_of file w ≡ Extension x next → (w.count < extension_limit) × (next.count ≡ w.count + 1)
+  pub pass_room : (x : Span) (next : Walker) → step_of file w ≡ Ok (Some (x, next)) → (w.count < extension_limit) × (next.count ≡ w.count + 1)
   pass_room x next e = let t = pass_taken x next e in (t.0.more, sym (ap (λ (v : Walker). v.count) t.1))
 
-  pub pass_turn : (x : Span) (next : Walker) → step_of file w ≡ Extension x next → Passed all file next (so_far ++ (x ∷ []))
+  pub pass_turn : (x : Span) (next : Walker) → step_of file w ≡ Ok (Some (x, next)) → Passed all file next (so_far ++ (x ∷ []))
   unfolding step_of
   pass_turn x next e =
       let s = stepped w next (found w.order w.count w.at rest) x e in
@@ -86,13 +98,13 @@ module _ (all : Walked) (file : List ℕ) (w : Walker) (so_far : List Span) (f :
         rest = f.rest ∙ rw (walk_extension w.order w.at rest (before w.count) x (finds s.0), after_onto, drop-drop, m);
       }
 
-  pub pass_end : step_of file w ≡ End → all ≡ listed so_far
+  pub pass_end : step_of file w ≡ Ok None → all ≡ listed so_far
   unfolding step_of
   pass_end e =
       let s = stepped_end w (found w.order w.count w.at rest) e in
       f.rest ∙ rw (walk_ended w.order w.at rest (before w.count) (finds s), append-nil)
 
-  pub pass_halt : (r : Refusal) → step_of file w ≡ Halt r → all ≡ stopped r
+  pub pass_halt : (r : Refusal) → step_of file w ≡ Err r → all ≡ stopped r
   unfolding step_of
   pass_halt r e =
       let s = stepped_halt w (found w.order w.count w.at rest) r e in

@@ -1,14 +1,14 @@
 -- What a walk shows of a list that is not kept: how many extensions there are, and the one that is wanted.
-use Rattle.std.specs.Prelude.{ℕ, cond, eqb, length, get_or}
+use Rattle.refusal.specs.declared.Refusal.{Refusal}
+use Rattle.extension.specs.declared.Span.{Span}
+use Rattle.std.specs.Prelude.{ℕ, cond, eqb, length, get_or, Ok, Err, Result}
 use Rattle.extension.specs.Walk.{Walked, listed, stopped}
 use Rattle.extension.specs.Listing.{no_span}
-use Rattle.listing.specs.declared.Scanned.{Scanned}
-use Rattle.listing.specs.declared.Scanned.TheVariants.{Counted, Broken}
 
 -- past the last extension there are zeros
-abbrev pub scan_of : ℕ → Walked → Scanned
-scan_of wanted (listed xs) = Counted (length xs) (get_or xs wanted no_span)
-scan_of wanted (stopped r) = Broken r
+abbrev pub scan_of : ℕ → Walked → Result (ℕ × Span) Refusal
+scan_of wanted (listed xs) = Ok (length xs, get_or xs wanted no_span)
+scan_of wanted (stopped r) = Err r
 
 -- the place that is kept after the extension with this number, which starts at `start`
 abbrev pub kept_of : ℕ → ℕ → ℕ → ℕ → ℕ

@@ -8,17 +8,9 @@ ghost use Rattle.extension.specs.Walk.{first_place, span, extensions_in};
 ghost use Rattle.extension.specs.Listing.{spans_of, listing_of};
 ghost use Rattle.listing.specs.Scan.{scan_of, kept_of};
 
-use extension::{LIMIT, Listing, Span, Step, Walker};
-use field::Order;
-use refusal::{Refusal, Verdict};
-
-// What a walk shows of a list that is not kept: how many extensions there are and the one that is wanted, zeros where
-// there is none; or the refusal.
-#[derive(Clone, Copy)]
-pub enum Scanned {
-    Counted(usize, Span),
-    Broken(Refusal),
-}
+use extension::{LIMIT, Listing, Span, Walker};
+use field::{Number, Order};
+use refusal::Refusal;
 
 // The spans of no extensions.
 pub fn no_spans() -> [Span; LIMIT]
@@ -38,23 +30,21 @@ pub fn list(file: &[u8], order: Order, end: usize) -> Listing
     let mut walker = Walker::new(order, end);
     let mut spans = no_spans();
     loop {
-        let step = walker.step(file);
-        let count = walker.count;
-        match step {
-            Step::Extension(x, next) => {
-                spans[count] = x;
+        match walker.step(file) {
+            Ok(Some((x, next))) => {
+                spans[walker.count] = x;
                 walker = next;
             }
-            Step::End => {
+            Ok(None) => {
                 return Listing {
-                    verdict: Verdict::Accepted,
-                    count,
+                    verdict: Ok(()),
+                    count: walker.count,
                     spans,
                 };
             }
-            Step::Halt(r) => {
+            Err(r) => {
                 return Listing {
-                    verdict: Verdict::Refused(r),
+                    verdict: Err(r),
                     count: 0,
                     spans: no_spans(),
                 };
@@ -77,41 +67,30 @@ fn span_at(file: &[u8], order: Order, place: usize) -> Span
 {
     Span {
         start: place,
-        size: field::read_i32(file, place, order),
-        code: field::read_i32(file, place + 4, order),
+        size: i32::read(file, place, order),
+        code: i32::read(file, place + 4, order),
     }
 }
 
 // How many extensions a file has whose region ends at `stop`, and the one that is wanted; or the first refusal. Of the one
 // that is wanted only its place is kept on the way: one number, which stays in a register.
-pub fn scan(file: &[u8], order: Order, stop: usize, wanted: usize) -> Scanned
+pub fn scan(file: &[u8], order: Order, stop: usize, wanted: usize) -> Result<(usize, Span), Refusal>
     requires { (first_place ≤ stop) × (stop ≤ length file.now) }
     ensures { result ≡ scan_of wanted (extensions_in order stop file.now) }
 {
     let mut walker = Walker::new(order, stop);
     let mut place = 0;
-    loop {
-        let step = walker.step_within(file);
-        let count = walker.count;
-        match step {
-            Step::Extension(x, next) => {
-                place = kept(count, wanted, x.start, place);
-                walker = next;
-            }
-            Step::End => {
-                if wanted < count {
-                    return Scanned::Counted(count, span_at(file, order, place));
-                }
-                let none = Span {
-                    start: 0,
-                    size: 0,
-                    code: 0,
-                };
-                return Scanned::Counted(count, none);
-            }
-            Step::Halt(r) => {
-                return Scanned::Broken(r);
-            }
-        }
+    while let Some((x, next)) = walker.step_within(file)? {
+        place = kept(walker.count, wanted, x.start, place);
+        walker = next;
     }
+    if wanted < walker.count {
+        return Ok((walker.count, span_at(file, order, place)));
+    }
+    let none = Span {
+        start: 0,
+        size: 0,
+        code: 0,
+    };
+    Ok((walker.count, none))
 }

@@ -12,7 +12,7 @@ fn main(rt: HostRuntime) -> io::Result<()> {
     let mut buffer = [0u8; LONGEST + 1];
     let n = read_input::read_full(&rt, &mut buffer)?;
     if LONGEST < n {
-        return listing_print::put(&rt, b"too long\n");
+        return println!(rt; "too long");
     }
     listing_print::put_reading(&rt, reader::read(&buffer[..n]))
 }

@@ -1,10 +1,11 @@
 -- An offset that is a multiple of 16 up to the limit comes back from its bits, as an aligned one. Assumes nothing.
+use Rattle.std.specs.Prelude.{Ok}
+use Rattle.offset.specs.declared.Offset.TheVariants.{Aligned}
 use Rattle.std.proofs.Common.{◌≡◌, ℕ, ◌*◌, ◌/◌, ◌%◌, ◌^◌, ◌<◌, ◌≤◌, true, false, pos, sym, ap, ◌∙◌, subst, lt_of_lt_of_le, zero-lt-suc, mul_assoc, mul-one, div-one, arith, lit≤, shl_lt}
 use lib.Ieee.{Float, binary32, of_int}
 use lib.Ieee.Bits.{of_bits-to_bits, to_bits-lt}
 use lib.Ieee.Exact.{HasValue, round_exact}
 use lib.Ieee.Fits.{of_int-fits}
-use Rattle.offset.specs.declared.Offset.TheVariants.{Aligned}
 use Rattle.offset.specs.Offset.{offset_limit, float_of, is_whole, whole_of, offset_of, aligned_of, offset_bits}
 use Rattle.offset.proofs.Fraction.{whole_at, value_at_lem}
 use Rattle.offset.proofs.Answer.{whole_answer, aligned_case, aligned_reads}
@@ -32,7 +33,7 @@ module _ (n : ℕ) (aligned : n % 16 ≡ 0) (small : n ≤ offset_limit) where
   pub back_value : whole_of (offset_bits n) ≡ n
   back_value = value_at_lem (offset_bits n) n 1 (zero-lt-suc 0) back_float ∙ div-one n
 
-  pub offset_back : offset_of (offset_bits n) ≡ Aligned n
+  pub offset_back : offset_of (offset_bits n) ≡ Ok (Aligned n)
   offset_back = whole_answer (offset_bits n) n back_whole back_value small ∙ aligned_case n aligned
 
   pub back_aligned : aligned_of (offset_bits n) ≡ true

@@ -1,11 +1,13 @@
 -- The answer for each range of bit patterns, as `decode` tells them apart. Assumes nothing.
+use Rattle.refusal.specs.declared.Rule.TheVariants.{OffsetNotWhole, OffsetOutside}
+use Rattle.std.specs.Prelude.{Ok, Err}
+use Rattle.offset.specs.declared.Offset.TheVariants.{Aligned, Unaligned}
 use Rattle.std.proofs.Common.{◌≡◌, ℕ, zero, suc, ◌+◌, ◌-◌, ◌*◌, ◌/◌, ◌%◌, ◌^◌, ◌<◌, ◌≤◌, Bool, true, false, eqb, leb, pos, sym, refl, ap, ◌∙◌, subst, lt_of_lt_of_le, lt_irrefl, mod-eq_of_lt, zero-lt-suc, mul_assoc, mul-le-mul, mul-pos, div-one, arith, lit<, lit≤, pow_pos, pow_mono, pow-add, shl_lt, shl_exact, eqb-true, le-leb}
 use lib.Ieee.{fin, binary32, lt, odd, of_fields}
 use lib.Ieee.Positive.{num, den}
 use lib.Ieee.Exact.{HasValue}
 use borrow.Author.Tests.{lt-leb, eqb-false}
 use Rattle.refusal.specs.Table.{refusal}
-use Rattle.offset.specs.declared.Offset.TheVariants.{Aligned, Unaligned, Refused}
 use Rattle.offset.specs.Offset.{float_of, whole_float, is_whole, whole_of, offset_of}
 use Rattle.offset.proofs.Fraction.{rescale, whole_at, part_at, value_at_lem, negative_at, infinite_at}
 use Rattle.offset.proofs.Pattern.{exponent, significand, parts, fields, ones_infinite, pattern_value}
@@ -13,7 +15,7 @@ use Rattle.offset.proofs.Answer.{whole_answer, large_answer, not_whole_answer, a
 
 -- ---- both zeros
 
-pub zero_answer : (b : ℕ) → b % 2147483648 ≡ 0 → Aligned 0 ≡ offset_of b
+pub zero_answer : (b : ℕ) → b % 2147483648 ≡ 0 → Ok (Aligned 0) ≡ offset_of b
 unfolding is_whole whole_of of_fields odd lt
 zero_answer b h =
     let x : exponent b ≡ 0 = omega arith in
@@ -35,7 +37,7 @@ sig_pos (suc x) t h = omega arith
 parts_pos : (b : ℕ) → (b % 2147483648 ≡ 0 → ⊥) → 0 < parts b
 parts_pos b n = mul-pos (sig_pos (exponent b) (b % 8388608) (λ e. omega (arith, n))) (pow_pos (exponent b - 1))
 
-pub high_answer : (b : ℕ) → (b % 2147483648 ≡ 0 → ⊥) → 2139095040 ≤ b → b < 4294967296 → Refused (refusal 8 108) ≡ offset_of b
+pub high_answer : (b : ℕ) → (b % 2147483648 ≡ 0 → ⊥) → 2139095040 ≤ b → b < 4294967296 → Err (refusal OffsetNotWhole 108) ≡ offset_of b
 unfolding is_whole
 high_answer b n h w = sym (not_whole_answer b (go (eqb (exponent b) 255) refl))
   where
@@ -52,7 +54,7 @@ sig_lt : (x t : ℕ) → t < 8388608 → significand x t < 2 ^ 24
 sig_lt zero t h = omega arith
 sig_lt (suc x) t h = omega arith
 
-pub low_answer : (b : ℕ) → (b % 2147483648 ≡ 0 → ⊥) → b < 1065353216 → Refused (refusal 8 108) ≡ offset_of b
+pub low_answer : (b : ℕ) → (b % 2147483648 ≡ 0 → ⊥) → b < 1065353216 → Err (refusal OffsetNotWhole 108) ≡ offset_of b
 low_answer b n h =
     let x : 24 + (exponent b - 1) ≤ 149 = omega arith in
     let small : parts b < 2 ^ 149 = lt_of_lt_of_le (shl_lt 24 (exponent b - 1) (sig_lt (exponent b) (b % 8388608) (omega arith))) (pow_mono x) in
@@ -83,7 +85,7 @@ value_in b k l h w e =
     (pattern_value false b (lt-leb 2147483648 b (omega arith)) (omega arith))
 
 -- from 2 ^ 28 on
-pub huge_answer : (b : ℕ) → 155 ≤ b / 8388608 → b < 2139095040 → Refused (refusal 9 108) ≡ offset_of b
+pub huge_answer : (b : ℕ) → 155 ≤ b / 8388608 → b < 2139095040 → Err (refusal OffsetOutside 108) ≡ offset_of b
 huge_answer b h w =
     let a = (8388608 + b % 8388608) * 2 ^ (b / 8388608 - 150) in
     let v : HasValue (float_of b) false a 1 = value_in b (b / 8388608 - 150) 0 (omega arith) w (omega arith) in
@@ -104,7 +106,7 @@ module _ (b : ℕ) (h : 1065353216 ≤ b) (w : b / 8388608 < 155) where
       subst (λ (a : ℕ). HasValue (float_of b) false a 8388608) (sym (shl_exact 24 (b / 8388608 - 127) 64 (omega arith) (omega arith)))
       (value_in b (b / 8388608 - 127) 23 h (omega arith) (omega arith))
 
-  pub part_answer : (scaled b % 8388608 ≡ 0 → ⊥) → Refused (refusal 8 108) ≡ offset_of b
+  pub part_answer : (scaled b % 8388608 ≡ 0 → ⊥) → Err (refusal OffsetNotWhole 108) ≡ offset_of b
   part_answer n = sym (not_whole_answer b (part_at b (scaled b) 8388608 (zero-lt-suc 8388607) scaled_value n))
 
   module _ (r : scaled b % 8388608 ≡ 0) where
@@ -114,12 +116,12 @@ module _ (b : ℕ) (h : 1065353216 ≤ b) (w : b / 8388608 < 155) where
     value : whole_of b ≡ scaled b / 8388608
     value = value_at_lem b (scaled b) 8388608 (zero-lt-suc 8388607) scaled_value
 
-    pub above_answer : 134217728 < scaled b / 8388608 → Refused (refusal 9 108) ≡ offset_of b
+    pub above_answer : 134217728 < scaled b / 8388608 → Err (refusal OffsetOutside 108) ≡ offset_of b
     above_answer l = sym (large_answer b whole (subst (λ (z : ℕ). 134217728 < z) (sym value) l))
 
     module _ (l : scaled b / 8388608 ≤ 134217728) where
-      pub aligned_answer : scaled b / 8388608 % 16 ≡ 0 → Aligned (scaled b / 8388608) ≡ offset_of b
+      pub aligned_answer : scaled b / 8388608 % 16 ≡ 0 → Ok (Aligned (scaled b / 8388608)) ≡ offset_of b
       aligned_answer e = sym (whole_answer b (scaled b / 8388608) whole value l ∙ aligned_case (scaled b / 8388608) e)
 
-      pub unaligned_answer : (scaled b / 8388608 % 16 ≡ 0 → ⊥) → Unaligned (scaled b / 8388608) ≡ offset_of b
+      pub unaligned_answer : (scaled b / 8388608 % 16 ≡ 0 → ⊥) → Ok (Unaligned (scaled b / 8388608)) ≡ offset_of b
       unaligned_answer e = sym (whole_answer b (scaled b / 8388608) whole value l ∙ unaligned_case (scaled b / 8388608) e)

@@ -2,87 +2,79 @@
 // integers alone, and back. The rules named are those of 01-scope.md.
 #![tactic(auto)]
 
-ghost use Rattle.std.specs.Prelude.{◌≡◌};
+ghost use Rattle.std.specs.Prelude.{◌≡◌, Err, Ok};
 ghost use Rattle.offset.specs.Offset.{offset_of, whole_in, says_aligned, offset_bits};
 
-use refusal::Refusal;
+use refusal::{Refusal, Rule};
 
-// What 32 bits say of an offset (02-change-requests.md, P6): a whole number up to the limit that is a
-// multiple of 16; one that is none; or the refusal, by rule 8 or by the upper bound of rule 9.
+// A whole number up to the limit (02-change-requests.md, P6): a multiple of 16, or one that is none.
 #[derive(Clone, Copy)]
 pub enum Offset {
     Aligned(u64),
     Unaligned(u64),
-    Refused(Refusal),
 }
 
 // The largest offset a file may have.
 pub const LIMIT: u64 = 134_217_728;
 
-fn refused(number: u64) -> Offset
-    ensures { result ≡ Offset.Refused (record { number = number; place = 108 }) }
-{
-    Offset::Refused(Refusal { number, place: 108 })
-}
-
-// What the bits say. From 1 on, a number with the exponent field e and the digits t is
+// What the bits say: the whole number, or the refusal by rule 8 or by the upper bound of rule 9. From 1 on, a number with the exponent field e and the digits t is
 // (2^23 + t) * 2^(e - 150).
-pub fn decode(bits: u32) -> Offset
+pub fn decode(bits: u32) -> Result<Offset, Refusal>
     ensures { result ≡ offset_of bits }
 {
     // Both zeros: no bit is set but the sign's.
     if bits % 0x8000_0000 == 0 {
-        return Offset::Aligned(0);
+        return Ok(Offset::Aligned(0));
     }
     // An infinity, a NaN or a number below zero.
     if 0x7f80_0000 <= bits {
-        return refused(8);
+        return Err(Rule::OffsetNotWhole.at(108));
     }
     // Above 0 and below 1.
     if bits < 0x3f80_0000 {
-        return refused(8);
+        return Err(Rule::OffsetNotWhole.at(108));
     }
     let exponent = bits / 0x80_0000;
     // From 2^28 on there are no fractions.
     if 155 <= exponent {
-        return refused(9);
+        return Err(Rule::OffsetOutside.at(108));
     }
     let significand = (0x80_0000 + bits % 0x80_0000) as u64;
     // The number in parts of 2^-23.
     let scaled = significand << (exponent - 127);
     if scaled % 0x80_0000 != 0 {
-        return refused(8);
+        return Err(Rule::OffsetNotWhole.at(108));
     }
     let whole = scaled / 0x80_0000;
     if LIMIT < whole {
-        return refused(9);
+        return Err(Rule::OffsetOutside.at(108));
     }
     if whole % 16 == 0 {
-        Offset::Aligned(whole)
+        Ok(Offset::Aligned(whole))
     } else {
-        Offset::Unaligned(whole)
+        Ok(Offset::Unaligned(whole))
     }
 }
 
-// The whole number that was read, aligned or not; 0 where the bits were refused.
-pub fn whole_in(offset: Offset) -> u64
-    ensures { result ≡ whole_in offset }
-{
-    match offset {
-        Offset::Aligned(n) => n,
-        Offset::Unaligned(n) => n,
-        Offset::Refused(_) => 0,
+impl Offset {
+    // The whole number, aligned or not.
+    pub fn whole(self) -> u64
+        ensures { result ≡ whole_in (Ok self) }
+    {
+        match self {
+            Offset::Aligned(n) => n,
+            Offset::Unaligned(n) => n,
+        }
     }
-}
 
-// Whether it is aligned.
-pub fn says_aligned(offset: Offset) -> bool
-    ensures { result ≡ says_aligned offset }
-{
-    match offset {
-        Offset::Aligned(_) => true,
-        Offset::Unaligned(_) => false,
-        Offset::Refused(_) => false,
+    // Whether it is aligned.
+    pub fn is_aligned(self) -> bool
+        ensures { result ≡ says_aligned (Ok self) }
+    {
+        match self {
+            Offset::Aligned(_) => true,
+            Offset::Unaligned(_) => false,
+        }
     }
 }
 

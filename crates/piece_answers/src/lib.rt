@@ -14,7 +14,7 @@ use answers::{ExtensionAnswer, FileAnswer};
 use extension::{LIMIT, Span};
 use header::Header;
 use pieces::Pieces;
-use refusal::{Refusal, Verdict};
+use refusal::Rule;
 use rules::Image;
 
 // What a piece answers: 25, with the state as it was handed in; or the state with the piece.
@@ -26,22 +26,20 @@ pub struct TakenAnswer {
     pub pieces: Pieces,
 }
 
-pub fn taken_answer(pieces: Pieces, piece: &[u8]) -> TakenAnswer
+#[tactic(auto, unfolding(crate::specs::Answers::taken_answer))]
+pub fn taken_answer(mut pieces: Pieces, piece: &[u8]) -> TakenAnswer
     ensures { result ≡ taken_answer (taken_of pieces piece.now) }
 {
-    let taken = pieces.take(piece);
-    let verdict = taken.verdict;
-    let after = taken.pieces;
-    match verdict {
-        Verdict::Accepted => TakenAnswer {
+    match pieces.take(piece) {
+        Ok(()) => TakenAnswer {
             refusal: 0,
             place: 0,
-            pieces: after,
+            pieces,
         },
-        Verdict::Refused(r) => TakenAnswer {
-            refusal: r.number,
+        Err(r) => TakenAnswer {
+            refusal: r.number(),
             place: r.place as u64,
-            pieces: after,
+            pieces,
         },
     }
 }
@@ -51,41 +49,33 @@ fn shown_file(header: Header, image: Image) -> FileAnswer
     requires { header.count ≤ extension_limit }
     ensures { result ≡ shown_file header image }
 {
-    let order = header.order;
-    let kind = header.kind;
     let dim = header.dim;
-    let intent = header.intent;
-    let sizes = header.sizes;
-    let step = sizes.steps;
+    let step = header.sizes.steps;
     FileAnswer {
         refusal: 0,
         place: 0,
         data_offset: image.offset,
         data_bytes: image.bytes,
-        big_endian: answers::big_endian(order),
-        pair: answers::is_pair(kind),
+        big_endian: header.order as u32,
+        pair: header.kind as u32,
         dim,
-        datatype: intent.datatype,
-        bitpix: intent.bitpix,
+        datatype: header.intent.datatype,
+        bitpix: header.intent.bitpix,
         extensions: header.count as u32,
         step,
-        aligned: answers::is_aligned(header.aligned),
+        aligned: u32::from(header.aligned),
     }
 }
 
 // What the bytes so far are, as a file.
+#[tactic(auto, unfolding(answers::specs::Answers::file_answer))]
 pub fn file_answer(pieces: Pieces) -> FileAnswer
     ensures { result ≡ file_answer (answer_of pieces) }
 {
     let reading = piece_reader::answer(pieces);
-    let verdict = reading.verdict;
-    match verdict {
-        Verdict::Accepted => {
-            let header = reading.header;
-            let image = reading.image;
-            shown_file(header, image)
-        }
-        Verdict::Refused(r) => answers::refused_file(r),
+    match reading.verdict {
+        Ok(()) => shown_file(reading.header, reading.image),
+        Err(r) => r.into(),
     }
 }
 
@@ -95,10 +85,7 @@ fn shown_extension(count: usize, spans: [Span; LIMIT], number: u64) -> Extension
     ensures { result ≡ extension_shown count (get_or spans number no_span) number }
 {
     if count as u64 <= number {
-        return answers::refused_extension(Refusal {
-            number: 18,
-            place: 0,
-        });
+        return Rule::NoSuchExtension.at(0).into();
     }
     let x = spans[number as usize];
     ExtensionAnswer {
@@ -111,17 +98,13 @@ fn shown_extension(count: usize, spans: [Span; LIMIT], number: u64) -> Extension
 }
 
 // One extension of the bytes so far.
+#[tactic(auto, unfolding(answers::specs::Answers::extension_answer))]
 pub fn extension_answer(pieces: Pieces, number: u64) -> ExtensionAnswer
     ensures { result ≡ extension_answer (answer_of pieces) number }
 {
     let reading = piece_reader::answer(pieces);
-    let verdict = reading.verdict;
-    match verdict {
-        Verdict::Accepted => {
-            let header = reading.header;
-            let spans = header.spans;
-            shown_extension(header.count, spans, number)
-        }
-        Verdict::Refused(r) => answers::refused_extension(r),
+    match reading.verdict {
+        Ok(()) => shown_extension(reading.header.count, reading.header.spans, number),
+        Err(r) => r.into(),
     }
 }

@@ -4,46 +4,21 @@
 
 use pieces::Pieces;
 use reader::Reading;
-use refusal::Verdict;
 use std::io;
 use std::io::Read;
 
-// What reading the file answered, and whether a read of the input failed before its end.
-#[derive(Clone, Copy)]
-pub struct Input {
-    pub failed: bool,
-    pub reading: Reading,
-}
-
-pub fn read_input(rt: &impl io::Input) -> Input {
+// What reading the file answers. A read that fails is not the end of the file.
+pub fn read_input(rt: &impl Input) -> io::Result<Reading> {
     let mut pieces = Pieces::start();
     let mut buffer = [0u8; 256];
     let mut input = rt.reader();
     loop {
-        let Ok(n) = input.read(&mut buffer) else {
-            return Input {
-                failed: true,
-                reading: piece_reader::answer(pieces),
-            };
-        };
+        let n = input.read(&mut buffer)?;
         if n == 0 {
-            return Input {
-                failed: false,
-                reading: piece_reader::answer(pieces),
-            };
+            return Ok(piece_reader::answer(pieces));
         }
-        let taken = pieces.take(&buffer[..n]);
-        let verdict = taken.verdict;
-        match verdict {
-            Verdict::Accepted => {
-                pieces = taken.pieces;
-            }
-            Verdict::Refused(refusal) => {
-                return Input {
-                    failed: false,
-                    reading: reader::refused(refusal),
-                };
-            }
+        if let Err(refusal) = pieces.take(&buffer[..n]) {
+            return Ok(reader::refused(refusal));
         }
     }
 }

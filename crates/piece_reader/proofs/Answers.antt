@@ -1,4 +1,6 @@
 -- The answer of what is kept of b is the reader's on b (`answer_kept`).
+use Rattle.refusal.specs.Table.{no_refusal}
+use Rattle.std.specs.Prelude.{Ok, Err, Some, None, Result, Option}
 use Prim.Native.Nat.{ℕ, ◌≤◌, min}
 use mathlib.Core.Path.{◌≡◌, refl, sym, ap, ◌∙◌}
 use mathlib.Core.Bool.{Bool, true, false, cond}
@@ -9,7 +11,6 @@ use lib.Dec.{ltb}
 use lib.ListN.{length}
 use lib.Seq.{take_all, take-length}
 use Rattle.refusal.specs.declared.Refusal.{Refusal}
-use Rattle.refusal.specs.declared.Verdict.TheVariants.{Accepted}
 use Rattle.refusal.proofs.Rows.{accepted_clear}
 use Rattle.field.specs.declared.Order.{Order}
 use Rattle.field.specs.Numbers.{u32_at}
@@ -17,8 +18,6 @@ use Rattle.offset.specs.Offset.{whole_of, offset_of, offset_limit}
 use Rattle.offset.proofs.Answer.{whole_answer, whole_in_case}
 use Rattle.extension.specs.declared.Span.{Span}
 use Rattle.extension.specs.declared.Walker.{Walker}
-use Rattle.extension.specs.declared.Step.{Step}
-use Rattle.extension.specs.declared.Step.TheVariants.{Extension, End, Halt}
 use Rattle.extension.specs.Walk.{extension_limit, first_place, step_of, listed, stopped, extensions_in}
 use Rattle.extension.specs.Listing.{spans_of, listing_of}
 use Rattle.header.specs.declared.Kind.{Kind}
@@ -27,8 +26,6 @@ use Rattle.header.specs.Fields.{header_of}
 use Rattle.rules.specs.Rules.{offset_outside, image_of, completed, region_end}
 use Rattle.rules.proofs.Passed.{neither}
 use Rattle.layout.specs.declared.Layout.{Layout}
-use Rattle.layout.specs.declared.Checked.{Checked}
-use Rattle.layout.specs.declared.Checked.TheVariants.{Fits, Breaks}
 use Rattle.layout.specs.File.{order_of, kind_of, shape_in, shape_of, has_extensions, file_rows, layout_of, checked_in, checked_of}
 use Rattle.layout.proofs.Checking.{checked_fits}
 use Rattle.reader.specs.declared.Reading.{Reading}
@@ -50,7 +47,7 @@ to_the_end : (order : Order) (b : List ℕ) (n : ℕ) → length b ≤ n → ext
 unfolding extensions_in
 to_the_end order b n h = rw (take-length b, take_all n b h)
 
-module _ (b : List ℕ) (l : Layout) (fits : checked_of b ≡ Fits l) (room : length b ≤ total_limit) where
+module _ (b : List ℕ) (l : Layout) (fits : checked_of b ≡ Ok l) (room : length b ≤ total_limit) where
   rules : Rules b
   rules = clear_rules b (accepted_clear (file_rows b) (checked_fits b (length b) l fits).0)
 
@@ -67,7 +64,7 @@ module _ (b : List ℕ) (l : Layout) (fits : checked_of b ≡ Fits l) (room : le
   reads_halt r e = reads_refused b l fits (listing_of (stopped r)) (ap listing_of (sym e)) r refl
 
   accepted_front : (n : ℕ) (spans : List Span) → accepted_with (front_of b) l n spans ≡ accepted_with b l n spans
-  accepted_front n spans = λ i. record { verdict = Accepted; header = completed (header_front b l.order l.kind n spans i); image = l.image }
+  accepted_front n spans = λ i. record { verdict = no_refusal; header = completed (header_front b l.order l.kind n spans i); image = l.image }
 
   abbrev order : Order
   order = order_of (front_of b)
@@ -115,10 +112,10 @@ module _ (b : List ℕ) (l : Layout) (fits : checked_of b ≡ Fits l) (room : le
       ∙ (λ i. accepted_with b l (n i) (spans_in (marks_of xs) (n i)))
       ∙ (λ i. accepted_with b l (length xs) (spans_of (standing_spans order end b i)))
 
-  by_step : has_extensions b ≡ true → (u : Step) → step_of b w ≡ u → ended_by u all ≡ reading_of b
-  by_step has (Halt r) e = reads_halt r (walk_is has ∙ standing_stopped order end b r e)
-  by_step has End e = all_is ∙ reads_list xs (walk_is has ∙ standing_listed order end b e)
-  by_step has (Extension x next) e = absurd (standing_still order end b x next e)
+  by_step : has_extensions b ≡ true → (u : Result (Option (Span × Walker)) Refusal) → step_of b w ≡ u → ended_by u all ≡ reading_of b
+  by_step has (Err r) e = reads_halt r (walk_is has ∙ standing_stopped order end b r e)
+  by_step has (Ok None) e = all_is ∙ reads_list xs (walk_is has ∙ standing_listed order end b e)
+  by_step has (Ok (Some (x, next))) e = absurd (standing_still order end b x next e)
 
   by_extender : (t : Bool) → has_extensions b ≡ t
       → cond t (ended_by (step_by w (walk_of order end b).coming (length b)) all) (accepted_with (front_of b) l 0 (spans_of [])) ≡ reading_of b
@@ -143,27 +140,27 @@ pub answer_kept : (b : List ℕ) → length b ≤ total_limit → answer_of (kep
 unfolding answer_of kept_of
 answer_kept b room = rw (checked_front b (length b)) (by (checked_of b) refl)
   where
-    by : (t : Checked) → checked_of b ≡ t
+    by : (t : Result Layout Refusal) → checked_of b ≡ t
         → answer_by t (front_of b) (length b) (walk_of (order_of (front_of b)) (end_in (order_of (front_of b)) (front_of b)) b) ≡ reading_of b
-    by (Breaks r) e = reads_broken b r e
-    by (Fits l) e = list_kept b l e room
+    by (Err r) e = reads_broken b r e
+    by (Ok l) e = list_kept b l e room
 
 -- of any state: the answer's count is within the limit
 module _ (s : Pieces) (l : Layout) where
   abbrev whole_list : Reading
   whole_list = accepted_with s.front l (min s.walk.count extension_limit) (spans_in s.walk.marks (min s.walk.count extension_limit))
 
-  few_by : (u : Step) → (ended_by u whole_list).header.count ≤ extension_limit
+  few_by : (u : Result (Option (Span × Walker)) Refusal) → (ended_by u whole_list).header.count ≤ extension_limit
   unfolding header_of
-  few_by (Halt r) = omega arith
-  few_by End = omega arith
-  few_by (Extension x next) = omega arith
+  few_by (Err r) = omega arith
+  few_by (Ok None) = omega arith
+  few_by (Ok (Some (x, next))) = omega arith
 
   few_listed : (listed_by s.front l s.taken s.walk).header.count ≤ extension_limit
   unfolding listed_by header_of
   few_listed = by (has_extensions s.front)
     where
-      step : Step
+      step : Result (Option (Span × Walker)) Refusal
       step = step_by (walker_of l.order (end_in l.order s.front) s.walk) s.walk.coming s.taken
 
       by : (t : Bool) → (cond t (ended_by step whole_list) (accepted_with s.front l 0 (spans_of []))).header.count ≤ extension_limit
@@ -174,6 +171,6 @@ pub count_few : (s : Pieces) → (answer_of s).header.count ≤ extension_limit
 unfolding answer_of header_of
 count_few s = by (checked_in s.front s.taken)
   where
-    by : (k : Checked) → (answer_by k s.front s.taken s.walk).header.count ≤ extension_limit
-    by (Breaks r) = omega arith
-    by (Fits l) = few_listed s l
+    by : (k : Result Layout Refusal) → (answer_by k s.front s.taken s.walk).header.count ≤ extension_limit
+    by (Err r) = omega arith
+    by (Ok l) = few_listed s l

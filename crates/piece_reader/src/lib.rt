@@ -11,9 +11,8 @@ ghost use Rattle.layout.specs.File.{shape_in};
 ghost use Rattle.piece_walk.specs.Marks.{spans_by};
 ghost use Rattle.piece_reader.specs.Answer.{listed_by, answer_of};
 
-use extension::{FIRST, LIMIT, Span, Step, Walker};
+use extension::{FIRST, LIMIT, Span, Walker};
 use layout::Layout;
-use outline::Outlined;
 use piece_walk::{Mark, Walk};
 use pieces::Pieces;
 use reader::Reading;
@@ -25,21 +24,16 @@ fn spans_in(marks: [Mark; LIMIT], count: usize) -> [Span; LIMIT]
 {
     let mut spans = listing::no_spans();
     let mut start = FIRST;
-    let mut i = 0;
-    while i < count {
-        let mark = marks[i];
-        spans[i] = Span {
-            start,
-            size: mark.size,
-            code: mark.code,
-        };
-        start += number::natural32(mark.size);
-        i += 1;
+    for i in 0..count {
+        let Mark { size, code } = marks[i];
+        spans[i] = Span { start, size, code };
+        start += number::natural32(size);
     }
     spans
 }
 
 // Rules 13 to 15 of what stands where the walk has come to, now that the length is known; where they pass, the record.
+#[tactic(auto, unfolding(crate::specs::Answer::listed_by))]
 fn listed(front: &[u8], layout: Layout, taken: usize, walk: Walk) -> Reading
     requires in_bounds { 348 ≤ length front.now }
     requires measured { Measured (shape_in layout.order layout.kind front.now) }
@@ -49,36 +43,26 @@ fn listed(front: &[u8], layout: Layout, taken: usize, walk: Walk) -> Reading
     if !layout::has_extensions(front) {
         return reader::accepted(front, layout, 0, listing::no_spans());
     }
-    let order = layout.order;
     let walker = Walker {
-        order,
-        end: pieces::end_in(front, order),
+        order: layout.order,
+        end: pieces::end_in(front, layout.order),
         at: walk.at,
         count: walk.count,
     };
-    let coming = walk.coming;
-    let marks = walk.marks;
-    let count = number::lesser(walk.count, LIMIT);
-    let step = piece_walk::step_by(walker, coming, taken);
-    match step {
-        Step::Halt(r) => reader::refused(r),
-        Step::End => reader::accepted(front, layout, count, spans_in(marks, count)),
-        Step::Extension(_, _) => reader::accepted(front, layout, count, spans_in(marks, count)),
+    let count = walk.count.min(LIMIT);
+    match piece_walk::step_by(walker, walk.coming, taken) {
+        Err(r) => reader::refused(r),
+        Ok(_) => reader::accepted(front, layout, count, spans_in(walk.marks, count)),
     }
 }
 
 // The reading of the bytes so far. The state may be fed on.
+#[tactic(auto, unfolding(crate::specs::Answer::answer_of))]
 pub fn answer(pieces: Pieces) -> Reading
     ensures { result ≡ answer_of pieces }
 {
-    let front = pieces.front;
-    let outlined = outline::outline_in(&front, pieces.taken, false, 0);
-    match outlined {
-        Outlined::Hidden(r) => reader::refused(r),
-        Outlined::Shown(outline) => {
-            let layout = outline.layout;
-            let walk = pieces.walk;
-            listed(&front, layout, pieces.taken, walk)
-        }
+    match outline::outline_in(&pieces.front, pieces.taken, false, 0) {
+        Err(r) => reader::refused(r),
+        Ok(outline) => listed(&pieces.front, outline.layout, pieces.taken, pieces.walk),
     }
 }

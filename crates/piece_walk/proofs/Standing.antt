@@ -1,5 +1,6 @@
 -- The walk over the bytes so far, as these alone say it (specs/Whole.antt): a piece takes it to the walk over the longer bytes
 -- (`walked_first`, `walked_later`), and from where it stands the whole list of extensions follows (`standing_listed`, `standing_stopped`).
+use Rattle.std.specs.Prelude.{Ok, Err, Some, None}
 use Prim.Native.Nat.{ℕ, zero, suc, ◌+◌, ◌-◌, ◌<◌, ◌≤◌}
 use mathlib.Core.Path.{◌≡◌, refl, sym, ap, ◌∙◌}
 use mathlib.Core.Bool.{Bool, true, false}
@@ -18,7 +19,6 @@ use Rattle.field.specs.Numbers.{bytes_at, i32_at}
 use Rattle.field.proofs.Tabulate.{tabulate_get, tabulate_same}
 use Rattle.extension.specs.declared.Span.{Span}
 use Rattle.extension.specs.declared.Walker.{Walker}
-use Rattle.extension.specs.declared.Step.TheVariants.{Extension, End, Halt}
 use Rattle.extension.specs.Walk.{extension_limit, first_place, rest_of, Found, extension, ended, refused, found_by, found, past, step_from, step_of}
 use Rattle.extension.specs.Walk.{Walked, listed, stopped, extensions_in}
 use Rattle.extension.proofs.Regions.{length_rest, u32_same}
@@ -159,10 +159,10 @@ module _ (order : Order) (end : ℕ) (b : List ℕ) where
   pub standing_spans : spans_by first_place (take (length wholes) (marks_of wholes)) ≡ wholes
   standing_spans = spans_back (whole_follows extension_limit first_place)
 
-  pub standing_listed : step_of b (walker_at place wholes) ≡ End → extensions_in order end b ≡ listed wholes
+  pub standing_listed : step_of b (walker_at place wholes) ≡ Ok None → extensions_in order end b ≡ listed wholes
   standing_listed e = pass_end (extensions_in order end b) b (walker_at place wholes) wholes on_all e
 
-  pub standing_stopped : (r : Refusal) → step_of b (walker_at place wholes) ≡ Halt r → extensions_in order end b ≡ stopped r
+  pub standing_stopped : (r : Refusal) → step_of b (walker_at place wholes) ≡ Err r → extensions_in order end b ≡ stopped r
   standing_stopped r e = pass_halt (extensions_in order end b) b (walker_at place wholes) wholes on_all r e
 
   pub few_whole : length wholes ≤ extension_limit
@@ -173,7 +173,7 @@ module _ (order : Order) (end : ℕ) (b : List ℕ) where
       let n : extension_limit - (extension_limit - length wholes) ≡ length wholes = omega (arith, few_whole) in
       stands extension_limit first_place (omega arith) x (rw n e)
 
-  pub standing_still : (x : Span) (next : Walker) → step_of b (walker_at place wholes) ≡ Extension x next → ⊥
+  pub standing_still : (x : Span) (next : Walker) → step_of b (walker_at place wholes) ≡ Ok (Some (x, next)) → ⊥
   unfolding step_of
   standing_still x next e =
       found_no x (stepped (walker_at place wholes) next (found order (length wholes) place (rest_of b end place)) x e).0

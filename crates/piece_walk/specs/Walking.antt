@@ -1,20 +1,19 @@
 -- How far a piece takes the walk over the extensions: it passes each extension that has come whole, and stands still at the first place
 -- where that is not so. What stands there is judged when the answer is asked for, by the length that the file then has. Of any state
 -- this says what a piece makes of it.
-use Rattle.std.specs.Prelude.{ℕ, zero, suc, ◌+◌, ◌-◌, min, List, length, set}
+use Rattle.refusal.specs.declared.Refusal.{Refusal}
+use Rattle.std.specs.Prelude.{ℕ, zero, suc, ◌+◌, ◌-◌, min, List, length, set, Ok, Err, Some, None, Result, Option}
 use Rattle.field.specs.declared.Order.{Order}
 use Rattle.field.specs.Numbers.{i32_at}
 use Rattle.extension.specs.declared.Span.{Span}
 use Rattle.extension.specs.declared.Walker.{Walker}
-use Rattle.extension.specs.declared.Step.{Step}
-use Rattle.extension.specs.declared.Step.TheVariants.{Extension, End, Halt}
 use Rattle.extension.specs.Walk.{extension_limit, found_by, step_from}
 use Rattle.piece_walk.specs.declared.Walk.{Walk}
 use Rattle.piece_walk.specs.Window.{window}
 use Rattle.piece_walk.specs.Marks.{mark_of}
 
 -- the next step, where `total` bytes have come and `coming` are the first eight at the walker's place
-unfoldable pub step_by : Walker → List ℕ → ℕ → Step
+unfoldable pub step_by : Walker → List ℕ → ℕ → Result (Option (Span × Walker)) Refusal
 step_by w coming total =
     step_from w
     (found_by w.count w.at (min w.end total - w.at) (i32_at w.order coming 0) (i32_at w.order coming 4))
@@ -33,10 +32,10 @@ passed_by end old n piece g x next =
       marks = set g.marks g.count (mark_of x);
     }
 
-abbrev pub if_extension : Step → Walk → (Span → Walker → Walk) → Walk
-if_extension (Extension x next) g f = f x next
-if_extension End g f = g
-if_extension (Halt r) g f = g
+abbrev pub if_extension : Result (Option (Span × Walker)) Refusal → Walk → (Span → Walker → Walk) → Walk
+if_extension (Ok (Some (x, next))) g f = f x next
+if_extension (Ok None) g f = g
+if_extension (Err r) g f = g
 
 -- the walk over at most k extensions more
 unfoldable pub passing : Order → ℕ → List ℕ → ℕ → List ℕ → ℕ → Walk → Walk

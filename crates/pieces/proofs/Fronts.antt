@@ -7,7 +7,8 @@ use native.Mathlib.Omega.{arith}
 use borrow.Author.Tests.{ltb-true, ltb-false}
 use lib.Dec.{ltb}
 use lib.ListN.{length, get_or, take, replicate, length-append, length-take, get_or-append, get_or-eq_default}
-use lib.Seq.{take_all, take-length, get_or-take, get_or-append-add, ext_get_or}
+use borrow.Rule.Slice.PartMut.{put_mid}
+use lib.Seq.{drop-drop, get_or-take, get_or-append-add, ext_get_or}
 use Rattle.field.specs.declared.Order.{Order}
 use Rattle.field.specs.Numbers.{u16_at, u32_at}
 use Rattle.field.proofs.Tabulate.{length-tabulate, tabulate_get, tabulate_same}
@@ -121,13 +122,7 @@ front_with_lem b piece = by (ltb (length b) front_length) refl
         let h = ltb-false (length b) front_length e in
         front_stays (front_of b) (length b) piece h ∙ front_kept b piece h
 
--- as many of a piece's bytes as there are
-pub take_lesser : (n : ℕ) (l : List ℕ) → take (min n (length l)) l ≡ take n l
-take_lesser n l = by (ltb n (length l)) refl
-  where
-    by : (t : Bool) → ltb n (length l) ≡ t → take (min n (length l)) l ≡ take n l
-    by true e = let m : min n (length l) ≡ n = omega (arith, ltb-true n (length l) e) in ap (λ k. take k l) m
-    by false e =
-        let h = ltb-false n (length l) e in
-        let m : min n (length l) ≡ length l = omega arith in
-        ap (λ k. take k l) m ∙ take-length l ∙ sym (take_all n l h)
+-- a copy to a part of a list is a write
+pub put_copied : (l : List ℕ) (at k : ℕ) (e : List ℕ) → length e ≡ k → put_mid at k l e ≡ put l at e
+unfolding put
+put_copied l at k e h = rw (drop-drop, h)

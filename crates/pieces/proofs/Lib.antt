@@ -1,4 +1,3 @@
-mod Totals
 pub mod Fronts
 mod Kept
 pub mod Theorems

@@ -1,4 +1,6 @@
 -- What a piece does to any state, and what is kept after any pieces from a fresh start, over the definitions that the promises cite.
+use Rattle.refusal.specs.declared.Rule.TheVariants.{TooManyBytes}
+use Rattle.std.specs.Prelude.{Err}
 use Prim.Native.Nat.{ℕ, ◌+◌, ◌≤◌, ◌<◌}
 use mathlib.Core.Path.{◌≡◌, refl, sym, ap, ◌∙◌}
 use mathlib.Core.Bool.{Bool, true, false, cond}
@@ -6,8 +8,7 @@ use mathlib.Core.List.{List, [], ◌∷◌, ◌++◌, append_assoc, append-nil}
 use native.Mathlib.Omega.{arith}
 use borrow.Author.Tests.{ltb-false, lt-ltb, le-ltb}
 use lib.ListN.{length, take, length-append}
-use Rattle.refusal.specs.declared.Verdict.TheVariants.{Accepted, Refused}
-use Rattle.refusal.specs.Table.{refusal}
+use Rattle.refusal.specs.Table.{refusal, no_refusal}
 use Rattle.refusal.proofs.Rows.{refused_never}
 use Rattle.field.specs.Numbers.{joined}
 use Rattle.extension.specs.Walk.{extension_limit, first_place}
@@ -16,19 +17,18 @@ use Rattle.piece_walk.specs.Marks.{spans_by}
 use Rattle.piece_walk.specs.Whole.{whole_from, walk_of}
 use Rattle.piece_walk.proofs.Standing.{standing_spans}
 use Rattle.pieces.specs.declared.Pieces.{Pieces}
-use Rattle.pieces.specs.declared.Taken.{Taken}
-use Rattle.pieces.specs.Pieces.{total_limit, passes_total, fresh, end_in, is_skipped, skipped_by, read_on, taken_with, taken_of}
+use Rattle.pieces.specs.Pieces.{total_limit, passes_total, fresh, end_in, is_skipped, skipped_by, read_on, taken_with, Taken, taken_of}
 use Rattle.pieces.specs.Feeding.{after_all, taken_from}
 use Rattle.pieces.specs.Kept.{front_of, kept_of}
 use Rattle.pieces.proofs.Kept.{taken_kept, fresh_kept}
 
 -- "25 for a piece that would pass that total, before anything else; the reader's state stays": of any state
 module _ (s : Pieces) (piece : List ℕ) where
-  pub past_total : total_limit < s.taken + length piece → ◌≡◌ {A = Taken} (taken_of s piece) (record { verdict = Refused (refusal 25 0); pieces = s })
+  pub past_total : total_limit < s.taken + length piece → ◌≡◌ {A = Taken} (taken_of s piece) (record { verdict = Err (refusal TooManyBytes 0); pieces = s })
   unfolding taken_of
   past_total h = rw (lt-ltb total_limit (s.taken + length piece) h)
 
-  pub within_total : s.taken + length piece ≤ total_limit → ◌≡◌ {A = Taken} (taken_of s piece) (record { verdict = Accepted; pieces = taken_with s piece })
+  pub within_total : s.taken + length piece ≤ total_limit → ◌≡◌ {A = Taken} (taken_of s piece) (record { verdict = no_refusal; pieces = taken_with s piece })
   unfolding taken_of
   within_total h = rw (le-ltb total_limit (s.taken + length piece) h)
 
@@ -41,18 +41,18 @@ module _ (s : Pieces) (piece : List ℕ) where
       by true = refl
       by false = refl
 
-  pub accepted_taken : (taken_of s piece).verdict ≡ Accepted
+  pub accepted_taken : (taken_of s piece).verdict ≡ no_refusal
       → (s.taken + length piece ≤ total_limit) × ((taken_of s piece).pieces.taken ≡ s.taken + length piece)
   unfolding taken_of
   accepted_taken e = by (passes_total s.taken (length piece)) refl e
     where
       refused : Taken
-      refused = record { verdict = Refused (refusal 25 0); pieces = s }
+      refused = record { verdict = Err (refusal TooManyBytes 0); pieces = s }
 
       by : (t : Bool) → passes_total s.taken (length piece) ≡ t
-          → (cond t refused (record { verdict = Accepted; pieces = taken_with s piece })).verdict ≡ Accepted
+          → (cond t refused (record { verdict = no_refusal; pieces = taken_with s piece })).verdict ≡ no_refusal
           → (s.taken + length piece ≤ total_limit)
-          × ((cond t refused (record { verdict = Accepted; pieces = taken_with s piece })).pieces.taken ≡ s.taken + length piece)
+          × ((cond t refused (record { verdict = no_refusal; pieces = taken_with s piece })).pieces.taken ≡ s.taken + length piece)
       by true d q = refused_never q
       by false d q = (ltb-false total_limit (s.taken + length piece) d, with_taken)
 

@@ -1,4 +1,7 @@
 -- "keeps no .. voxel bytes": of a single file no byte from the voxel offset on is kept. A pair's voxels are not in the file that is read.
+use Rattle.std.specs.Prelude.{Ok, Err, Result}
+use Rattle.offset.specs.declared.Offset.TheVariants.{Aligned, Unaligned}
+use Rattle.refusal.specs.declared.Refusal.{Refusal}
 use Prim.Native.Nat.{ℕ, ◌+◌, ◌≤◌, ◌<◌}
 use mathlib.Core.Path.{◌≡◌, refl, ap, ◌∙◌}
 use mathlib.Core.Bool.{Bool, true, false, cond}
@@ -8,7 +11,6 @@ use lib.ListN.{get_or, take, length-take, get_or-eq_default}
 use Rattle.field.specs.Numbers.{u32_at}
 use Rattle.field.proofs.Tabulate.{tabulate_get}
 use Rattle.offset.specs.declared.Offset.{Offset}
-use Rattle.offset.specs.declared.Offset.TheVariants.{Aligned, Unaligned, Refused}
 use Rattle.offset.specs.Offset.{whole_of, offset_of}
 use Rattle.offset.proofs.Answer.{aligned_reads, unaligned_reads}
 use Rattle.header.specs.declared.Kind.TheVariants.{Single}
@@ -23,10 +25,10 @@ module _ (b : List ℕ) (single : kind_of b ≡ Single) where
   bits = u32_at (order_of b) b 108
 
   -- the walk ends before the first voxel
-  by_offset : (o : Offset) → offset_of bits ≡ o → end_by Single o ≤ whole_of bits
-  by_offset (Aligned n) e = omega (arith, (aligned_reads bits n e).value)
-  by_offset (Unaligned n) e = omega (arith, (unaligned_reads bits n e).value)
-  by_offset (Refused r) e = omega arith
+  by_offset : (o : Result Offset Refusal) → offset_of bits ≡ o → end_by Single o ≤ whole_of bits
+  by_offset (Ok (Aligned n)) e = omega (arith, (aligned_reads bits n e).value)
+  by_offset (Ok (Unaligned n)) e = omega (arith, (unaligned_reads bits n e).value)
+  by_offset (Err r) e = omega arith
 
   end_before : end_in (order_of b) b ≤ whole_of bits
   unfolding end_in

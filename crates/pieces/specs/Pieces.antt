@@ -1,8 +1,9 @@
 -- What is kept of a file that comes in pieces, and what a piece does to it. 02-change-requests.md, P1: "a reader that takes pieces of any
 -- length, zero too, keeps no payload or voxel bytes, and answers at the end".
-use Rattle.std.specs.Prelude.{ℕ, ◌+◌, ◌-◌, Bool, cond, ◌&&◌, ◌||◌, List, [], ltb, leb, length, take, replicate}
-use Rattle.refusal.specs.declared.Verdict.TheVariants.{Accepted, Refused}
-use Rattle.refusal.specs.Table.{refusal}
+use Rattle.refusal.specs.declared.Rule.TheVariants.{TooManyBytes}
+use Rattle.refusal.specs.declared.Refusal.{Refusal}
+use Rattle.std.specs.Prelude.{ℕ, ◌+◌, ◌-◌, Bool, cond, ◌&&◌, ◌||◌, List, [], ltb, leb, length, take, replicate, Err, Result}
+use Rattle.refusal.specs.Table.{refusal, Verdict, no_refusal}
 use Rattle.field.specs.declared.Order.{Order}
 use Rattle.field.specs.Numbers.{u32_at}
 use Rattle.offset.specs.declared.Offset.{Offset}
@@ -16,7 +17,6 @@ use Rattle.piece_walk.specs.declared.Walk.{Walk}
 use Rattle.piece_walk.specs.Marks.{marks_of}
 use Rattle.piece_walk.specs.Walking.{walked_on}
 use Rattle.pieces.specs.declared.Pieces.{Pieces}
-use Rattle.pieces.specs.declared.Taken.{Taken}
 
 -- "At most 2,199,023,255,552 bytes in all."
 abbrev pub total_limit : ℕ
@@ -44,7 +44,7 @@ front_with front n piece = put front n (take (front_length - n) piece)
 
 -- Where the walk over the extensions stops: at a single file's voxel offset, so that it comes to no voxel. A pair's region ends with the
 -- file, which the total bounds. Where rule 8 or 9 refuses the offset, what the walk does is not asked.
-abbrev pub end_by : Kind → Offset → ℕ
+abbrev pub end_by : Kind → Result Offset Refusal → ℕ
 end_by Pair o = total_limit
 end_by Single o = whole_in o
 
@@ -77,8 +77,13 @@ unfoldable pub taken_with : Pieces → List ℕ → Pieces
 taken_with s piece =
     cond (is_skipped s.front s.walk.at s.taken (s.taken + length piece)) (skipped_by s piece) (read_on s piece)
 
+-- what a piece leaves: a verdict, and the state
+pub record Taken : Type 0 where
+  pub verdict : Verdict
+  pub pieces : Pieces
+
 -- "25 for a piece that would pass that total, before anything else; the reader's state stays. It joins the table with place 0"
 unfoldable pub taken_of : Pieces → List ℕ → Taken
 taken_of s piece =
-    cond (passes_total s.taken (length piece)) (record { verdict = Refused (refusal 25 0); pieces = s })
-    (record { verdict = Accepted; pieces = taken_with s piece })
+    cond (passes_total s.taken (length piece)) (record { verdict = Err (refusal TooManyBytes 0); pieces = s })
+    (record { verdict = no_refusal; pieces = taken_with s piece })

@@ -8,11 +8,11 @@ ghost use Rattle.layout.specs.File.{order_of};
 ghost use Rattle.pieces.specs.Pieces.{passes_total, front_with, end_by, end_in, is_skipped, read_on, fresh, taken_of};
 
 use extension::{FIRST, LIMIT};
-use field::Order;
+use field::{Number, Order};
 use header::Kind;
 use offset::Offset;
 use piece_walk::{Mark, Walk};
-use refusal::{Refusal, Verdict};
+use refusal::{Refusal, Rule};
 
 // The most bytes that are taken in all.
 const TOTAL: usize = 2199023255552;
@@ -26,21 +26,11 @@ pub struct Pieces {
     pub walk: Walk,
 }
 
-// What a piece leaves: a verdict, and the state, which a refusal leaves as it was.
-#[derive(Clone, Copy)]
-pub struct Taken {
-    pub verdict: Verdict,
-    pub pieces: Pieces,
-}
-
 // Whether a piece would pass the total. No sum is made, so none can wrap.
 fn passes_total(taken: usize, len: usize) -> bool
     ensures { result ≡ passes_total taken len }
 {
-    if TOTAL < taken {
-        return true;
-    }
-    TOTAL - taken < len
+    TOTAL < taken || TOTAL - taken < len
 }
 
 // The first 352 bytes, with those that a piece brings.
@@ -50,13 +40,14 @@ fn front_with(old: [u8; 352], taken: usize, piece: &[u8]) -> [u8; 352]
     if 352 <= taken {
         return old;
     }
-    let n = number::lesser(352 - taken, piece.len());
+    let n = (352 - taken).min(piece.len());
     let mut out = old;
-    buffer::copy_in(&mut out, taken, &piece[..n]);
+    out[taken..taken + n].copy_from_slice(&piece[..n]);
     out
 }
 
 // The byte order, by dim[0].
+#[tactic(auto, unfolding(layout::specs::File::order_of))]
 fn order_of(front: &[u8]) -> Order
     requires { 348 ≤ length front.now }
     ensures { result ≡ order_of front.now }
@@ -69,16 +60,17 @@ fn order_of(front: &[u8]) -> Order
 }
 
 // Where a file's extensions end at the latest, by its kind and offset.
-fn end_by(kind: Kind, offset: Offset) -> usize
+fn end_by(kind: Kind, offset: Result<Offset, Refusal>) -> usize
     ensures { result ≡ end_by kind offset }
 {
     match kind {
         Kind::Pair => TOTAL,
-        Kind::Single => offset::whole_in(offset) as usize,
+        Kind::Single => offset.map_or(0, |found| found.whole() as usize),
     }
 }
 
 // The same by a file's first bytes: 0 where the extender says that there are none.
+#[tactic(auto, unfolding(crate::specs::Pieces::end_in))]
 pub fn end_in(front: &[u8], order: Order) -> usize
     requires { 348 ≤ length front.now }
     ensures { result ≡ end_in order front.now }
@@ -88,7 +80,7 @@ pub fn end_in(front: &[u8], order: Order) -> usize
     }
     end_by(
         layout::kind_of(front),
-        offset::decode(field::read_u32(front, 108, order)),
+        offset::decode(u32::read(front, 108, order)),
     )
 }
 
@@ -98,33 +90,28 @@ fn is_skipped(front: &[u8], at: usize, taken: usize, total: usize) -> bool
     requires { 348 ≤ length front.now }
     ensures { result ≡ is_skipped front.now at taken total }
 {
-    if taken < 352 {
-        return false;
-    }
-    (end_in(front, order_of(front)) <= taken) | (total <= at)
+    352 <= taken && (end_in(front, order_of(front)) <= taken || total <= at)
 }
 
 // The state with a piece that is not skipped.
+#[tactic(auto, unfolding(crate::specs::Pieces::read_on, crate::specs::Pieces::walk_with))]
 fn read_on(pieces: Pieces, piece: &[u8]) -> Pieces
     requires { pieces.taken + length piece.now ≤ 2199023255552 }
     ensures { result ≡ read_on pieces piece.now }
 {
-    let taken = pieces.taken;
-    let old = pieces.front;
-    let front = front_with(old, taken, piece);
+    let front = front_with(pieces.front, pieces.taken, piece);
     let order = order_of(&front);
     let end = end_in(&front, order);
-    let before = pieces.walk;
-    let walk = piece_walk::walk_on(order, end, before, taken, piece);
     Pieces {
-        taken: taken + piece.len(),
+        taken: pieces.taken + piece.len(),
         front,
-        walk,
+        walk: piece_walk::walk_on(order, end, pieces.walk, pieces.taken, piece),
     }
 }
 
 impl Pieces {
     // The state before the first piece.
+    #[tactic(auto, unfolding(crate::specs::Pieces::fresh, piece_walk::specs::Marks::marks_of))]
     pub fn start() -> Self
         ensures { result ≡ fresh }
     {
@@ -140,36 +127,21 @@ impl Pieces {
         }
     }
 
-    // The state with a piece; or 25, and the state as it was.
-    pub fn take(self, piece: &[u8]) -> Taken
-        ensures { result ≡ taken_of self piece.now }
+    // Takes a piece; or 25, and the state stays as it was.
+    #[tactic(auto, unfolding(crate::specs::Pieces::taken_of, crate::specs::Pieces::taken_with))]
+    pub fn take(&mut self, piece: &[u8]) -> Result<(), Refusal>
+        ensures answer { result ≡ (taken_of self.old piece.now).verdict }
+        ensures state { self.new ≡ (taken_of self.old piece.now).pieces }
     {
-        let taken = self.taken;
-        let front = self.front;
-        let walk = self.walk;
-        if passes_total(taken, piece.len()) {
-            return Taken {
-                verdict: Verdict::Refused(Refusal {
-                    number: 25,
-                    place: 0,
-                }),
-                pieces: Pieces { taken, front, walk },
-            };
+        if passes_total(self.taken, piece.len()) {
+            return Err(Rule::TooManyBytes.at(0));
         }
-        let total = taken + piece.len();
-        if is_skipped(&front, walk.at, taken, total) {
-            return Taken {
-                verdict: Verdict::Accepted,
-                pieces: Pieces {
-                    taken: total,
-                    front,
-                    walk,
-                },
-            };
+        let total = self.taken + piece.len();
+        if is_skipped(&self.front, self.walk.at, self.taken, total) {
+            self.taken = total;
+        } else {
+            *self = read_on(*self, piece);
         }
-        Taken {
-            verdict: Verdict::Accepted,
-            pieces: read_on(self, piece),
-        }
+        Ok(())
     }
 }

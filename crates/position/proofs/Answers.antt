@@ -1,4 +1,7 @@
 -- One law for each answer: the tests that lead to it. Where rules 17 and sform_code pass, the answer is what the crate affine places.
+use Rattle.refusal.specs.declared.Rule.TheVariants.{IndexOutside, NoPosition}
+use Rattle.std.specs.Prelude.{Ok, Err, Some, None, Result, Option, ok_or}
+use Rattle.refusal.specs.declared.Refusal.{Refusal}
 use mathlib.Core.Path.{◌≡◌, refl, sym, ap}
 use mathlib.Core.Bool.{Bool, true, false, not, cond, ◌&&◌, ◌||◌, and-true, and-eq-true_iff}
 use mathlib.Core.List.{List, [], ◌∷◌}
@@ -8,27 +11,21 @@ use borrow.Author.Tests.{ltb-true, le-leb, lt-leb}
 use lib.Dec.{ltb}
 use lib.IntN.{ℤ, pos}
 use lib.Signed.{le_z}
-use Rattle.refusal.specs.declared.Verdict.TheVariants.{Accepted, Refused as Breaks}
-use Rattle.refusal.specs.Table.{refusal, verdict, decided}
+use Rattle.refusal.specs.Table.{refusal, verdict, decided, no_refusal}
 use Rattle.number.specs.Natural.{natural_of}
 use Rattle.grid.specs.Grid.{within}
 use Rattle.grid.specs.Axes.{dim_at}
 use Rattle.rules.specs.Rules.{axis_count}
 use Rattle.affine.specs.declared.Position.{Position}
-use Rattle.affine.specs.declared.Placed.{Placed}
-use Rattle.affine.specs.declared.Placed.TheVariants.{At as Located, NoPosition}
 use Rattle.affine.specs.Method.{finite_rows, finite_results, position_of}
 use Rattle.position.specs.declared.Sform.{Sform}
-use Rattle.position.specs.declared.Positioned.{Positioned}
-use Rattle.position.specs.declared.Positioned.TheVariants.{At, Refused}
 use Rattle.position.specs.Positions.{length_at, three_axes, SmallIndex, results_by, position_by}
 
 -- what affine places, as an answer
-abbrev pub from_placed : Placed → Positioned
-from_placed (Located p) = At p
-from_placed NoPosition = Refused (refusal 23 0)
+abbrev pub from_placed : Option Position → Result Position Refusal
+from_placed p = ok_or p (refusal NoPosition 0)
 
-abbrev pub placed_by : Sform → ℕ → ℕ → ℕ → Placed
+abbrev pub placed_by : Sform → ℕ → ℕ → ℕ → Option Position
 placed_by f i j k = position_of f.srow_x f.srow_y f.srow_z i j k
 
 -- ---- rule 17's axes and indexes
@@ -55,12 +52,12 @@ module _ (a b c i j k : ℕ) where
 
 -- ---- the answers
 module _ (f : Sform) (i j k : ℕ) where
-  pub position_outside : within (three_axes f.dim) (i ∷ j ∷ k ∷ []) ≡ false → Refused (refusal 17 0) ≡ position_by f i j k
+  pub position_outside : within (three_axes f.dim) (i ∷ j ∷ k ∷ []) ≡ false → Err (refusal IndexOutside 0) ≡ position_by f i j k
   unfolding position_by verdict
   position_outside o = simp o
 
   module _ (inside : within (three_axes f.dim) (i ∷ j ∷ k ∷ []) ≡ true) where
-    pub position_unset : le_z f.sform_code (pos 0) ≡ true → Refused (refusal 23 0) ≡ position_by f i j k
+    pub position_unset : le_z f.sform_code (pos 0) ≡ true → Err (refusal NoPosition 0) ≡ position_by f i j k
     unfolding position_by verdict
     position_unset e = simp (inside, e)
 
@@ -71,7 +68,7 @@ module _ (f : Sform) (i j k : ℕ) where
         simp (inside, e) (go (not (finite_rows f.srow_x f.srow_y f.srow_z) || not (finite_results p)) p)
       where
         go : (t : Bool) (p : Position)
-            → from_placed (decided (cond t (Breaks (refusal 23 0)) Accepted) (Located p) (λ r. NoPosition))
-            ≡ decided (cond t (Breaks (refusal 23 0)) Accepted) (At p) Refused
+            → from_placed (decided (cond t (Err (refusal NoPosition 0)) no_refusal) (Some p) (λ r. None))
+            ≡ decided (cond t (Err (refusal NoPosition 0)) no_refusal) (Ok p) Err
         go true p = refl
         go false p = refl

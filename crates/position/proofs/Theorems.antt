@@ -1,10 +1,10 @@
 -- What holds of every position: its three values are finite; and in the case that 01-scope.md states it is the exact whole number; and
 -- which numbers a refusal has. The crate slice_position has the same of files.
+use Rattle.std.specs.Prelude.{Ok, Err, Some, None, Result, Option}
 use mathlib.Core.Path.{◌≡◌, refl, sym, subst}
 use mathlib.Core.Bool.{Bool, true, false, not, ◌&&◌, ◌||◌, and-eq-true_iff}
 use mathlib.Core.List.{List, [], ◌∷◌}
-use Prim.Native.Nat.{ℕ, suc, ◌-◌, ◌<◌}
-use native.Mathlib.Omega.{arith}
+use Prim.Native.Nat.{ℕ, suc, ◌<◌}
 use borrow.Author.Tests.{not-false}
 use lib.Dec.{eqb}
 use lib.ListN.{get_or}
@@ -12,7 +12,7 @@ use lib.IntN.{ℤ, pos}
 use lib.Signed.{le_z}
 use lib.Ieee.Scale.{finite}
 use Rattle.refusal.specs.declared.Refusal.{Refusal}
-use Rattle.refusal.specs.Table.{verdict}
+use Rattle.refusal.specs.Table.{verdict, number_of}
 use Rattle.refusal.proofs.Rows.{Clear, none, one, accepted_clear, decided_accepted, decided-refused, verdict_number}
 use Rattle.grid.specs.Grid.{within}
 use Rattle.grid.specs.Axes.{seven_axes}
@@ -20,14 +20,10 @@ use Rattle.grid.proofs.Axes.{seven_at}
 use Rattle.rules.specs.Rules.{axis_count}
 use Rattle.rules.proofs.Passed.{neither}
 use Rattle.affine.specs.declared.Position.{Position}
-use Rattle.affine.specs.declared.Placed.{Placed}
-use Rattle.affine.specs.declared.Placed.TheVariants.{At as Located, NoPosition}
 use Rattle.affine.specs.Method.{finite_rows, finite_results}
 use Rattle.affine.specs.Whole.{IsWhole, WholeRow, exact_of, PlacedExactly}
 use Rattle.affine.proofs.Theorems.{position_exact}
 use Rattle.position.specs.declared.Sform.{Sform}
-use Rattle.position.specs.declared.Positioned.{Positioned}
-use Rattle.position.specs.declared.Positioned.TheVariants.{At, Refused}
 use Rattle.position.specs.Positions.{length_at, three_axes, results_by, position_rows, position_by}
 use Rattle.position.proofs.Answers.{from_placed, placed_by, position_placed}
 
@@ -39,17 +35,17 @@ pub record WholeRows (f : Sform) : Type 0 where
   pub z : WholeRow f.srow_z
 
 -- an answer that is the position of three whole numbers
-abbrev pub PositionedExactly : Positioned → ℤ → ℤ → ℤ → Type 0
-PositionedExactly (Refused r) x y z = ⊥
-PositionedExactly (At p) x y z = IsWhole p.x x × IsWhole p.y y × IsWhole p.z z
+abbrev pub PositionedExactly : Result Position Refusal → ℤ → ℤ → ℤ → Type 0
+PositionedExactly (Err r) x y z = ⊥
+PositionedExactly (Ok p) x y z = IsWhole p.x x × IsWhole p.y y × IsWhole p.z z
 
 -- "the position is the exact whole number"
-abbrev pub ExactAt : (f : Sform) → WholeRows f → ℕ → ℕ → ℕ → Positioned → Type 0
+abbrev pub ExactAt : (f : Sform) → WholeRows f → ℕ → ℕ → ℕ → Result Position Refusal → Type 0
 ExactAt f w i j k answer = PositionedExactly answer (exact_of w.x i j k) (exact_of w.y i j k) (exact_of w.z i j k)
 
-pub placed_exactly : (p : Placed) (x y z : ℤ) → PlacedExactly p x y z → PositionedExactly (from_placed p) x y z
-placed_exactly (Located p) x y z e = e
-placed_exactly NoPosition x y z e = absurd e
+pub placed_exactly : (p : Option Position) (x y z : ℤ) → PlacedExactly p x y z → PositionedExactly (from_placed p) x y z
+placed_exactly (Some p) x y z e = e
+placed_exactly None x y z e = absurd e
 
 -- an index is inside its axis, and sform_code is above 0
 pub record Answered (f : Sform) (i j k : ℕ) : Type 0 where
@@ -69,8 +65,8 @@ length_of_seven dim k h = seven_at dim (axis_count dim) k h
 -- ---- every position is finite
 
 -- a position is not a refusal
-pub unpositioned_never {ℓ} : {A : Type ℓ} {r : Refusal} {p : Position} → Refused r ≡ At p → A
-unpositioned_never e = let z : ◌≡◌ {A = ℕ} 0 1 = cc in absurd (omega arith)
+pub unpositioned_never {ℓ} : {A : Type ℓ} {r : Refusal} {p : Position} → ◌≡◌ {A = Result Position Refusal} (Err r) (Ok p) → A
+unpositioned_never e = cc
 
 abbrev pub IsFinite : Position → Type 0
 IsFinite p = (finite p.x ≡ true) × (finite p.y ≡ true) × (finite p.z ≡ true)
@@ -86,7 +82,7 @@ rows_finite f i j k (one r17 (one r23 (one placed none))) =
     let p = results_by f i j k in
     not-false (finite_results p) (neither (not (finite_rows f.srow_x f.srow_y f.srow_z)) (not (finite_results p)) placed).1
 
-pub position_by_finite : (f : Sform) (i j k : ℕ) (p : Position) → position_by f i j k ≡ At p → IsFinite p
+pub position_by_finite : (f : Sform) (i j k : ℕ) (p : Position) → position_by f i j k ≡ Ok p → IsFinite p
 unfolding position_by
 position_by_finite f i j k p e =
     let d = decided_accepted (verdict (position_rows f i j k)) (λ r. unpositioned_never) e in
@@ -95,15 +91,13 @@ position_by_finite f i j k p e =
 
 -- ---- The numbers of the refusals
 
-pub refused_same : (q r : Refusal) → Refused q ≡ Refused r → q ≡ r
-refused_same q r e = cc
-
 -- 17 and 23
 abbrev pub record_number : ℕ → Bool
 record_number n = eqb n 17 || eqb n 23
 
-pub position_by_number : (f : Sform) (i j k : ℕ) (r : Refusal) → position_by f i j k ≡ Refused r → record_number r.number ≡ true
+pub position_by_number : (f : Sform) (i j k : ℕ) (r : Refusal) → position_by f i j k ≡ Err r → record_number (number_of r.rule) ≡ true
 unfolding position_by
 position_by_number f i j k r e =
     let d = decided-refused (verdict (position_rows f i j k)) (λ x. unpositioned_never (sym x)) e in
-    rw (← refused_same d.0 r d.2) (verdict_number record_number (position_rows f i j k) d.0 refl d.1)
+    let same : d.0 ≡ r = cc d.2 in
+    rw (← same) (verdict_number record_number (position_rows f i j k) d.0 refl d.1)

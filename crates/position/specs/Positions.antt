@@ -1,6 +1,8 @@
 -- Positions: 01-scope.md, "Slices and positions", second paragraph. Any fields have an answer, also those of a record that reading
 -- would refuse.
-use Rattle.std.specs.Prelude.{ℕ, ◌≤◌, cond, not, List, [], ◌∷◌, leb, ℤ, pos}
+use Rattle.refusal.specs.declared.Rule.TheVariants.{IndexOutside, NoPosition}
+use Rattle.refusal.specs.declared.Refusal.{Refusal}
+use Rattle.std.specs.Prelude.{ℕ, ◌≤◌, cond, not, List, [], ◌∷◌, leb, ℤ, pos, Ok, Err, Result}
 use Rattle.std.specs.Int.Signed.{le_z}
 use Rattle.refusal.specs.Table.{Row, row, verdict, decided}
 use Rattle.number.specs.Natural.{natural_of}
@@ -11,8 +13,6 @@ use Rattle.rules.specs.Rules.{axis_count}
 use Rattle.affine.specs.declared.Position.{Position}
 use Rattle.affine.specs.Method.{results_of, srow_of, place_rows}
 use Rattle.position.specs.declared.Sform.{Sform}
-use Rattle.position.specs.declared.Positioned.{Positioned}
-use Rattle.position.specs.declared.Positioned.TheVariants.{At, Refused}
 
 -- "Axes past dim[0] have length 1"; the first axis is 1
 abbrev pub length_at : List ℤ → ℕ → ℕ
@@ -35,12 +35,12 @@ results_by f i j k = results_of (srow_of f.srow_x f.srow_y f.srow_z) i j k
 -- not finite": the last two are affine's row.
 abbrev pub position_rows : Sform → ℕ → ℕ → ℕ → List Row
 position_rows f i j k =
-    row 17 (not (within (three_axes f.dim) (i ∷ j ∷ k ∷ []))) 0
-    ∷ row 23 (le_z f.sform_code (pos 0)) 0
+    row IndexOutside (not (within (three_axes f.dim) (i ∷ j ∷ k ∷ []))) 0
+    ∷ row NoPosition (le_z f.sform_code (pos 0)) 0
     ∷ place_rows f.srow_x f.srow_y f.srow_z i j k
 
-unfoldable pub position_by : Sform → ℕ → ℕ → ℕ → Positioned
-position_by f i j k = decided (verdict (position_rows f i j k)) (At (results_by f i j k)) Refused
+unfoldable pub position_by : Sform → ℕ → ℕ → ℕ → Result Position Refusal
+position_by f i j k = decided (verdict (position_rows f i j k)) (Ok (results_by f i j k)) Err
 
 -- the same by a record
 abbrev pub sform_of : Header → Sform
@@ -53,5 +53,5 @@ sform_of h =
       srow_z = h.rows.srow_z;
     }
 
-abbrev pub position_in : Header → ℕ → ℕ → ℕ → Positioned
+abbrev pub position_in : Header → ℕ → ℕ → ℕ → Result Position Refusal
 position_in h i j k = position_by (sform_of h) i j k

@@ -2,13 +2,13 @@
 // binary32 arithmetic is that of the crate affine; here stand rules 17 and 23, and which comes first.
 #![tactic(auto)]
 
-ghost use Rattle.std.specs.Prelude.{◌≡◌, true, [], ◌∷◌, ◌≤◌};
+ghost use Rattle.std.specs.Prelude.{◌≡◌, true, [], ◌∷◌, ◌≤◌, Err};
 ghost use Rattle.grid.specs.Grid.{within};
 ghost use Rattle.position.specs.Positions.{length_at, three_axes, SmallIndex, position_by, sform_of, position_in};
 
-use affine::{Placed, Position};
+use affine::Position;
 use header::Header;
-use refusal::Refusal;
+use refusal::{Refusal, Rule};
 
 // The fields that Method 3 reads: the dims, sform_code and the three rows, each number by its bits.
 #[derive(Clone, Copy)]
@@ -18,19 +18,6 @@ pub struct Sform {
     pub srow_x: [u32; 4],
     pub srow_y: [u32; 4],
     pub srow_z: [u32; 4],
-}
-
-// What is answered of a voxel: its position, or a refusal.
-#[derive(Clone, Copy)]
-pub enum Positioned {
-    At(Position),
-    Refused(Refusal),
-}
-
-fn refused(number: u64) -> Positioned
-    ensures { result ≡ Positioned.Refused (record { number = number; place = 0 }) }
-{
-    Positioned::Refused(Refusal { number, place: 0 })
 }
 
 // The length of an axis: 1 past dim[0].
@@ -45,6 +32,7 @@ fn length_at(dim: &[i16], axis: usize) -> u64
 }
 
 // Whether each of three indexes is inside its axis.
+#[tactic(auto, using(crate::proofs::Answers::three_within))]
 fn is_inside(dim: &[i16], i: u64, j: u64, k: u64) -> bool
     ensures is { result ≡ within (three_axes dim.now) (i ∷ j ∷ k ∷ []) }
     ensures small { result ≡ true → SmallIndex i j k }
@@ -56,24 +44,18 @@ fn is_inside(dim: &[i16], i: u64, j: u64, k: u64) -> bool
 }
 
 // The position of the voxel i, j, k by the fields that Method 3 reads. Any fields may be asked.
-pub fn position_by(f: Sform, i: u64, j: u64, k: u64) -> Positioned
+#[tactic(auto, using(crate::proofs::Answers::position_outside, crate::proofs::Answers::position_unset))]
+pub fn position_by(f: Sform, i: u64, j: u64, k: u64) -> Result<Position, Refusal>
     ensures { result ≡ position_by f i j k }
 {
-    let dim = f.dim;
-    if !is_inside(&dim, i, j, k) {
-        return refused(17);
+    if !is_inside(&f.dim, i, j, k) {
+        return Err(Rule::IndexOutside.at(0));
     }
     if f.sform_code <= 0 {
-        return refused(23);
+        return Err(Rule::NoPosition.at(0));
     }
-    let x = f.srow_x;
-    let y = f.srow_y;
-    let z = f.srow_z;
-    let placed = affine::place(x, y, z, i as u16, j as u16, k as u16);
-    match placed {
-        Placed::At(p) => Positioned::At(p),
-        Placed::NoPosition => refused(23),
-    }
+    let placed = affine::place(f.srow_x, f.srow_y, f.srow_z, i as u16, j as u16, k as u16);
+    placed.ok_or(Rule::NoPosition.at(0))
 }
 
 // These fields of a record.
@@ -81,14 +63,12 @@ fn sform_of(header: Header) -> Sform
     ensures { result ≡ sform_of header }
 {
     let dim = header.dim;
-    let quatern = header.quatern;
-    let rows = header.rows;
-    let srow_x = rows.srow_x;
-    let srow_y = rows.srow_y;
-    let srow_z = rows.srow_z;
+    let srow_x = header.rows.srow_x;
+    let srow_y = header.rows.srow_y;
+    let srow_z = header.rows.srow_z;
     Sform {
         dim,
-        sform_code: quatern.sform_code,
+        sform_code: header.quatern.sform_code,
         srow_x,
         srow_y,
         srow_z,
@@ -96,7 +76,7 @@ fn sform_of(header: Header) -> Sform
 }
 
 // The position of the voxel i, j, k by a record. Any record may be asked.
-pub fn position_in(header: Header, i: u64, j: u64, k: u64) -> Positioned
+pub fn position_in(header: Header, i: u64, j: u64, k: u64) -> Result<Position, Refusal>
     ensures { result ≡ position_in header i j k }
 {
     position_by(sform_of(header), i, j, k)

@@ -1,4 +1,5 @@
 -- P6: "No file is newly refused": the verdict of reading is the one before, on all bytes.
+use Rattle.std.specs.Prelude.{Ok, Err}
 use Prim.Native.Nat.{ℕ}
 use mathlib.Core.Path.{◌≡◌, refl, sym, ap, ◌∙◌}
 use mathlib.Core.Bool.{Bool, true, false, ◌||◌, true≢false}
@@ -7,9 +8,7 @@ use borrow.Author.Tests.{ltb-true}
 use lib.Dec.{ltb}
 use lib.ListN.{length}
 use Rattle.refusal.specs.declared.Refusal.{Refusal}
-use Rattle.refusal.specs.declared.Verdict.{Verdict}
-use Rattle.refusal.specs.declared.Verdict.TheVariants.{Accepted, Refused}
-use Rattle.refusal.specs.Table.{Row, verdict, decided, then}
+use Rattle.refusal.specs.Table.{Row, verdict, decided, then, Verdict}
 use Rattle.refusal.proofs.Rows.{Clear, one, accepted_clear, verdict-append}
 use Rattle.offset.specs.Offset.{offset_limit, is_whole, whole_of}
 use Rattle.offset.specs.Before.{whole, not_whole, too_large, offset_before}
@@ -40,7 +39,7 @@ module _ (bits : ℕ) where
 -- ---- a file that 8 or 9 refuses is refused by them or by an earlier rule, whatever follows
 
 -- where one of their tests holds, rules 5 to 10 refuse
-stops : (f : Shape) (broken outside : Bool) → (broken || outside) ≡ true → (r : Refusal) × (verdict (rows_by_offset f broken outside) ≡ Refused r)
+stops : (f : Shape) (broken outside : Bool) → (broken || outside) ≡ true → (r : Refusal) × (verdict (rows_by_offset f broken outside) ≡ Err r)
 stops f broken outside e = by (verdict (rows_by_offset f broken outside)) refl
   where
     never : (b o : Bool) → (b || o) ≡ true → b ≡ false → o ≡ false → ⊥
@@ -50,16 +49,16 @@ stops f broken outside e = by (verdict (rows_by_offset f broken outside)) refl
     clear_never : Clear (rows_by_offset f broken outside) → ⊥
     clear_never (one r5 (one r6 (one r7 (one r8 (one r9 rest))))) = never broken outside e r8 r9
 
-    by : (v : Verdict) → verdict (rows_by_offset f broken outside) ≡ v → (r : Refusal) × (verdict (rows_by_offset f broken outside) ≡ Refused r)
-    by Accepted a = absurd (clear_never (accepted_clear (rows_by_offset f broken outside) a))
-    by (Refused r) a = (r, a)
+    by : (v : Verdict) → verdict (rows_by_offset f broken outside) ≡ v → (r : Refusal) × (verdict (rows_by_offset f broken outside) ≡ Err r)
+    by (Ok tt) a = absurd (clear_never (accepted_clear (rows_by_offset f broken outside) a))
+    by (Err r) a = (r, a)
 
 module _ (s : List ℕ) (r : Refusal) where
   abbrev judged : List Row → Image → Walked → Walked
   judged rows i x = decided (verdict (head_rows s (length s) ++ (rows ++ end_rows (kind_of s) i (length s)))) x stopped
 
-  judged_by : (rows : List Row) (i : Image) (x : Walked) → verdict rows ≡ Refused r
-      → judged rows i x ≡ decided (then (verdict (head_rows s (length s))) (Refused r)) x stopped
+  judged_by : (rows : List Row) (i : Image) (x : Walked) → verdict rows ≡ Err r
+      → judged rows i x ≡ decided (then (verdict (head_rows s (length s))) (Err r)) x stopped
   judged_by rows i x e =
       let end = end_rows (kind_of s) i (length s) in
       ap (λ (v : Verdict). decided v x stopped)
@@ -67,13 +66,13 @@ module _ (s : List ℕ) (r : Refusal) where
       ∙ ap (then (verdict (head_rows s (length s)))) (verdict-append rows end ∙ ap (λ (v : Verdict). then v (verdict end)) e))
 
   -- neither the image nor the extensions are asked
-  unasked : (rows rows' : List Row) (i j : Image) (x y : Walked) → verdict rows ≡ Refused r → verdict rows' ≡ Refused r
+  unasked : (rows rows' : List Row) (i j : Image) (x y : Walked) → verdict rows ≡ Err r → verdict rows' ≡ Err r
       → judged rows i x ≡ judged rows' j y
   unasked rows rows' i j x y e e' = judged_by rows i x e ∙ by (verdict (head_rows s (length s))) ∙ sym (judged_by rows' j y e')
     where
-      by : (h : Verdict) → decided (then h (Refused r)) x stopped ≡ decided (then h (Refused r)) y stopped
-      by Accepted = refl
-      by (Refused q) = refl
+      by : (h : Verdict) → decided (then h (Err r)) x stopped ≡ decided (then h (Err r)) y stopped
+      by (Ok tt) = refl
+      by (Err q) = refl
 
 -- ---- the verdict
 
@@ -82,7 +81,7 @@ module _ (s : List ℕ) where
   bits = (shape_of s).vox_offset
 
   -- neither reading asks what follows
-  refused_alike : (r : Refusal) → verdict (field_rows (shape_of s) (length s)) ≡ Refused r → verdict (field_rows_before (shape_of s) (length s)) ≡ Refused r
+  refused_alike : (r : Refusal) → verdict (field_rows (shape_of s) (length s)) ≡ Err r → verdict (field_rows_before (shape_of s) (length s)) ≡ Err r
       → judgement s ≡ judgement_before s
   unfolding judgement judgement_before
   refused_alike r e e' =

@@ -13,8 +13,7 @@ use lib.IntN.{ℤ, pos, negsuc}
 use lib.ListN.{length, get_or, get_or-eq_default}
 use Rattle.field.specs.declared.Order.TheVariants.{Little, Big}
 use Rattle.field.specs.Numbers.{i32_at, joined}
-use Rattle.refusal.specs.declared.Verdict.TheVariants.{Accepted}
-use Rattle.refusal.specs.Table.{verdict}
+use Rattle.refusal.specs.Table.{verdict, no_refusal}
 use Rattle.refusal.proofs.Rows.{Clear, none, one, accepted_clear, clear_accepted, clear_append, clear_split, decided_accepted, refused_never}
 use Rattle.datatype.specs.Datatypes.{is_number}
 use Rattle.offset.specs.Offset.{whole_of, offset_limit, aligned_of}
@@ -249,7 +248,7 @@ pub accepted_file : (s : List ℕ) → IsAccepted s → IsFile s
 unfolding reading_of
 accepted_file s a = by (judgement s) refl a
   where
-    by : (w : Walked) → judgement s ≡ w → (reading_by s w).verdict ≡ Accepted → IsFile s
+    by : (w : Walked) → judgement s ≡ w → (reading_by s w).verdict ≡ no_refusal → IsFile s
     by (listed xs) e d = record { list = xs; file = judged_file s xs e }
     by (stopped r) e d = refused_never d
 

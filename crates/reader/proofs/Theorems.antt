@@ -1,5 +1,7 @@
 -- The reader's theorems, over the definitions that its promise cites (docs/PROMISES.md names each); `accepted_exactly` and what an
 -- accepted file is like stand in proofs/File.antt.
+use Rattle.refusal.specs.declared.Rule.TheVariants.{FileCut}
+use Rattle.std.specs.Prelude.{Ok, Err}
 use Prim.Native.Nat.{ℕ, ◌+◌, ◌*◌, ◌≤◌}
 use mathlib.Core.Path.{◌≡◌, refl, ap, sym, ◌∙◌}
 use mathlib.Core.Bool.{Bool, true, false, not, cond, ◌&&◌, and-false, and-eq-true_iff, false≢true}
@@ -12,9 +14,7 @@ use lib.ListN.{length, get_or}
 use Rattle.field.specs.declared.Order.TheVariants.{Little, Big}
 use Rattle.field.specs.Numbers.{u16_at, joined}
 use Rattle.refusal.specs.declared.Refusal.{Refusal}
-use Rattle.refusal.specs.declared.Verdict.{Verdict}
-use Rattle.refusal.specs.declared.Verdict.TheVariants.{Accepted, Refused}
-use Rattle.refusal.specs.Table.{row, verdict, decided}
+use Rattle.refusal.specs.Table.{row, verdict, decided, Verdict, number_of}
 use Rattle.refusal.proofs.Rows.{Clear, between, between_wider, verdict_number, refused_never}
 use Rattle.extension.specs.Walk.{extension_limit, first_place, Walked, listed, stopped, extensions_in}
 use Rattle.extension.specs.Pieces.{pieces, AllComplete, spans_from}
@@ -95,41 +95,41 @@ module _ (s : List ℕ) where
 
   list_number : (t : Bool) (r : Refusal)
       → cond t (extensions_in (order_of s) (region_end (kind_of s) (image_of (shape_of s)) (length s)) s) (listed []) ≡ stopped r
-      → between 13 15 r.number ≡ true
+      → between 13 15 (number_of r.rule) ≡ true
   list_number true r e = extensions_number (order_of s) (region_end (kind_of s) (image_of (shape_of s)) (length s)) s r e
   list_number false r e = stopped_never (sym e)
 
   -- a kind of number that the walk's refusals have and those of rules 1 to 12
   module _ (p : ℕ → Bool) (walk : (n : ℕ) → between 13 15 n ≡ true → p n ≡ true)
-      (rows : (q : Refusal) → verdict (file_rows s) ≡ Refused q → p q.number ≡ true) where
+      (rows : (q : Refusal) → verdict (file_rows s) ≡ Err q → p (number_of q.rule) ≡ true) where
     judged_number : (v : Verdict) (r : Refusal) → verdict (file_rows s) ≡ v → decided v (extensions_of (layout_of s) s) stopped ≡ stopped r
-        → p r.number ≡ true
-    judged_number Accepted r h e = walk r.number (list_number (has_extensions s) r e)
-    judged_number (Refused q) r h e = let z : q ≡ r = cc in rw (← z) (rows q h)
+        → p (number_of r.rule) ≡ true
+    judged_number (Ok tt) r h e = walk (number_of r.rule) (list_number (has_extensions s) r e)
+    judged_number (Err q) r h e = let z : q ≡ r = cc in rw (← z) (rows q h)
 
-    number_by : (r : Refusal) → (reading_of s).verdict ≡ Refused r → p r.number ≡ true
+    number_by : (r : Refusal) → (reading_of s).verdict ≡ Err r → p (number_of r.rule) ≡ true
     unfolding reading_of judgement
     number_by r e = by (judgement s) refl e
       where
-        by : (w : Walked) → judgement s ≡ w → (reading_by s w).verdict ≡ Refused r → p r.number ≡ true
+        by : (w : Walked) → judgement s ≡ w → (reading_by s w).verdict ≡ Err r → p (number_of r.rule) ≡ true
         by (listed xs) h d = refused_never (sym d)
         by (stopped q) h d = let z : q ≡ r = cc in rw (← z) (judged_number (verdict (file_rows s)) q refl h)
 
-  pub reading_number : (r : Refusal) → (reading_of s).verdict ≡ Refused r → between 1 15 r.number ≡ true
+  pub reading_number : (r : Refusal) → (reading_of s).verdict ≡ Err r → between 1 15 (number_of r.rule) ≡ true
   reading_number r e =
       number_by (between 1 15) (λ n. between_wider 13 15 1 15 n refl)
-      (λ q h. between_wider 1 12 1 15 q.number refl (verdict_number (between 1 12) (file_rows s) q refl h)) r e
+      (λ q h. between_wider 1 12 1 15 (number_of q.rule) refl (verdict_number (between 1 12) (file_rows s) q refl h)) r e
 
   -- "12 remains only for lengths 349..351" (02-change-requests.md, P2): of a pair, so a single file never gets it
-  other_rows : cut_extender (kind_of s) (length s) ≡ false → (q : Refusal) → verdict (file_rows s) ≡ Refused q
-      → not (eqb q.number 12) ≡ true
+  other_rows : cut_extender (kind_of s) (length s) ≡ false → (q : Refusal) → verdict (file_rows s) ≡ Err q
+      → not (eqb (number_of q.rule) 12) ≡ true
   unfolding verdict
   other_rows c q e =
-      let eleven = row 11 (cut_short (kind_of s) (length s) (image_of (shape_of s))) 108 in
+      let eleven = row FileCut (cut_short (kind_of s) (length s) (image_of (shape_of s))) 108 in
       let others = head_rows s (length s) ++ (field_rows (shape_of s) (length s) ++ (eleven ∷ [])) in
       verdict_number (λ n. not (eqb n 12)) others q refl (rw c at e)
 
-  pub reading_twelve : (r : Refusal) → (reading_of s).verdict ≡ Refused r → r.number ≡ 12 → cut_extender (kind_of s) (length s) ≡ true
+  pub reading_twelve : (r : Refusal) → (reading_of s).verdict ≡ Err r → number_of r.rule ≡ 12 → cut_extender (kind_of s) (length s) ≡ true
   reading_twelve r e n = by (cut_extender (kind_of s) (length s)) refl
     where
       walk : (m : ℕ) → between 13 15 m ≡ true → not (eqb m 12) ≡ true
@@ -142,9 +142,9 @@ module _ (s : List ℕ) where
 -- What a call answers of a file, "1..15 first": its refusals have these numbers, and those that it gives by itself.
 module _ {ℓ} {A : Type ℓ} {a : A} {f : Refusal → A} (p : ℕ → Bool) (s : List ℕ) (r : Refusal) where
   pub answered_number : ((n : ℕ) → between 1 15 n ≡ true → p n ≡ true) → ((q : Refusal) → f q ≡ f r → q ≡ r)
-      → (IsAccepted s → a ≡ f r → p r.number ≡ true) → decided (reading_of s).verdict a f ≡ f r → p r.number ≡ true
+      → (IsAccepted s → a ≡ f r → p (number_of r.rule) ≡ true) → decided (reading_of s).verdict a f ≡ f r → p (number_of r.rule) ≡ true
   answered_number wider same own e = by (reading_of s).verdict refl e
     where
-      by : (v : Verdict) → (reading_of s).verdict ≡ v → decided v a f ≡ f r → p r.number ≡ true
-      by Accepted h d = own h d
-      by (Refused q) h d = wider r.number (reading_number s r (h ∙ ap Refused (same q d)))
+      by : (v : Verdict) → (reading_of s).verdict ≡ v → decided v a f ≡ f r → p (number_of r.rule) ≡ true
+      by (Ok tt) h d = own h d
+      by (Err q) h d = wider (number_of r.rule) (reading_number s r (h ∙ ap Err (same q d)))

@@ -1,9 +1,7 @@
 -- The verdict of reading before P6 of 02-change-requests.md, by the offset's reading of that time. "No file is newly refused": the law
 -- `verdict_kept` says that reading's verdict is this one on all bytes.
-use Rattle.std.specs.Prelude.{ℕ, Bool, true, false, cond, List, [], ◌++◌, length}
-use Rattle.refusal.specs.declared.Verdict.{Verdict}
-use Rattle.refusal.specs.declared.Verdict.TheVariants.{Accepted, Refused}
-use Rattle.refusal.specs.Table.{Row, verdict, decided}
+use Rattle.std.specs.Prelude.{ℕ, Bool, true, false, cond, List, [], ◌++◌, length, Err}
+use Rattle.refusal.specs.Table.{Row, verdict, decided, Verdict, no_refusal}
 use Rattle.offset.specs.Before.{Before, whole, not_whole, too_large, offset_before}
 use Rattle.extension.specs.Walk.{Walked, listed, stopped, extensions_in}
 use Rattle.header.specs.declared.Kind.{Kind}
@@ -52,8 +50,8 @@ unfoldable pub judgement_before : List ℕ → Walked
 judgement_before s = decided (verdict (rows_before s)) (extensions_before s) stopped
 
 abbrev pub verdict_by : Walked → Verdict
-verdict_by (listed xs) = Accepted
-verdict_by (stopped r) = Refused r
+verdict_by (listed xs) = no_refusal
+verdict_by (stopped r) = Err r
 
 abbrev pub verdict_before : List ℕ → Verdict
 verdict_before s = verdict_by (judgement_before s)

@@ -1,10 +1,9 @@
 -- The reading of a file: rules 1 to 12, then its list of extensions with rules 13 to 15; its verdict, and the record and the image's
 -- place beside it. 01-scope.md: "A file is accepted when none of 1..15 holds of its bytes"; "The record has all fields". Beside a
 -- refusal the record is all zero.
-use Rattle.std.specs.Prelude.{ℕ, ◌≡◌, cond, List, [], length}
+use Rattle.std.specs.Prelude.{ℕ, ◌≡◌, cond, List, [], length, Err}
 use Rattle.refusal.specs.declared.Refusal.{Refusal}
-use Rattle.refusal.specs.declared.Verdict.TheVariants.{Accepted, Refused}
-use Rattle.refusal.specs.Table.{verdict, decided}
+use Rattle.refusal.specs.Table.{verdict, decided, no_refusal}
 use Rattle.extension.specs.declared.Span.{Span}
 use Rattle.extension.specs.Walk.{Walked, listed, stopped, extensions_in}
 use Rattle.extension.specs.Listing.{spans_of}
@@ -28,14 +27,14 @@ abbrev pub no_image : Image
 no_image = record { offset = 0; bytes = 0 }
 
 abbrev pub refused_with : Refusal → Reading
-refused_with r = record { verdict = Refused r; header = no_header; image = no_image }
+refused_with r = record { verdict = Err r; header = no_header; image = no_image }
 
 -- the record and the image of a file with this layout and these extensions; the record has its sizes (02-change-requests.md, P4) and the
 -- aligned fact (P6)
 abbrev pub accepted_with : List ℕ → Layout → ℕ → List Span → Reading
 accepted_with s l count spans =
     record {
-      verdict = Accepted;
+      verdict = no_refusal;
       header = completed (header_of l.order l.kind count spans s);
       image = l.image;
     }
@@ -49,4 +48,4 @@ reading_of s = reading_by s (judgement s)
 
 -- a file that reading accepts
 abbrev pub IsAccepted : List ℕ → Type 0
-IsAccepted s = (reading_of s).verdict ≡ Accepted
+IsAccepted s = (reading_of s).verdict ≡ no_refusal

@@ -1,7 +1,7 @@
 // The reader: a file's verdict by rules 1 to 15, and its record (01-scope.md, "Refusal numbers", "Extensions").
 #![tactic(auto)]
 
-ghost use Rattle.std.specs.Prelude.{◌≡◌};
+ghost use Rattle.std.specs.Prelude.{◌≡◌, Ok};
 ghost use Rattle.extension.specs.Listing.{listing_of};
 ghost use Rattle.layout.specs.File.{checked_of};
 ghost use Rattle.rules.specs.Rules.{shape_of_record, aligned_in, completed, Measured};
@@ -11,14 +11,14 @@ ghost use Rattle.reader.specs.Reading.{extensions_of, refused_with, accepted_wit
 use extension::{LIMIT, Listing, Span};
 use field::Order;
 use header::{Header, Kind};
-use layout::{Checked, Layout};
-use refusal::{Refusal, Verdict};
+use layout::Layout;
+use refusal::Refusal;
 use rules::Image;
 
 // What reading a file answers. Beside a refusal the record and the image are all zero.
 #[derive(Clone, Copy)]
 pub struct Reading {
-    pub verdict: Verdict,
+    pub verdict: Result<(), Refusal>,
     pub header: Header,
     pub image: Image,
 }
@@ -28,13 +28,11 @@ pub fn list_in(file: &[u8], layout: Layout) -> Listing
     ensures { result ≡ listing_of (extensions_of layout file.now) }
 {
     if layout::has_extensions(file) {
-        let order = layout.order;
-        let kind = layout.kind;
-        let image = layout.image;
-        listing::list(file, order, bounds::region_end(kind, image, file.len()))
+        let end = bounds::region_end(layout.kind, layout.image, file.len());
+        listing::list(file, layout.order, end)
     } else {
         Listing {
-            verdict: Verdict::Accepted,
+            verdict: Ok(()),
             count: 0,
             spans: listing::no_spans(),
         }
@@ -47,7 +45,7 @@ pub fn refused(r: Refusal) -> Reading
 {
     let none = [0u8; 0];
     Reading {
-        verdict: Verdict::Refused(r),
+        verdict: Err(r),
         header: header::parse(&none, Order::Little, Kind::Single, 0, listing::no_spans()),
         image: Image {
             offset: 0,
@@ -62,12 +60,11 @@ fn complete(header: Header, aligned: bool) -> Header
     requires header_value { aligned_in (shape_of_record header) ≡ aligned }
     ensures { result ≡ completed header }
 {
-    let dim = header.dim;
-    let intent = header.intent;
-    let mut out = header;
-    out.sizes = sizes::sizes_in(dim, intent.bitpix);
-    out.aligned = aligned;
-    out
+    Header {
+        sizes: sizes::sizes_in(header.dim, header.intent.bitpix),
+        aligned,
+        ..header
+    }
 }
 
 // The reading of an accepted file with this layout and these extensions.
@@ -76,32 +73,25 @@ pub fn accepted(file: &[u8], layout: Layout, count: usize, spans: [Span; LIMIT])
     requires file_value { aligned_in (shape_in layout.order layout.kind file.now) ≡ layout.aligned }
     ensures { result ≡ accepted_with file.now layout count spans }
 {
-    let order = layout.order;
-    let kind = layout.kind;
-    let image = layout.image;
     Reading {
-        verdict: Verdict::Accepted,
+        verdict: Ok(()),
         header: complete(
-            header::parse(file, order, kind, count, spans),
+            header::parse(file, layout.order, layout.kind, count, spans),
             layout.aligned,
         ),
-        image,
+        image: layout.image,
     }
 }
 
 // The reading of a file that rules 1 to 12 pass.
 fn read_list(file: &[u8], layout: Layout) -> Reading
-    requires { checked_of file.now ≡ Checked.Fits layout }
+    requires { checked_of file.now ≡ Ok layout }
     ensures { result ≡ reading_of file.now }
 {
     let listing = list_in(file, layout);
-    let verdict = listing.verdict;
-    match verdict {
-        Verdict::Refused(r) => refused(r),
-        Verdict::Accepted => {
-            let spans = listing.spans;
-            accepted(file, layout, listing.count, spans)
-        }
+    match listing.verdict {
+        Err(r) => refused(r),
+        Ok(()) => accepted(file, layout, listing.count, listing.spans),
     }
 }
 
@@ -109,9 +99,8 @@ fn read_list(file: &[u8], layout: Layout) -> Reading
 pub fn read(file: &[u8]) -> Reading
     ensures { result ≡ reading_of file.now }
 {
-    let checked = layout::check(file);
-    match checked {
-        Checked::Breaks(r) => refused(r),
-        Checked::Fits(layout) => read_list(file, layout),
+    match layout::check(file) {
+        Err(r) => refused(r),
+        Ok(layout) => read_list(file, layout),
     }
 }

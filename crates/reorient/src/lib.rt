@@ -25,25 +25,14 @@ pub struct Turn {
 fn names(t: Turn, o: usize) -> bool
     ensures { result ≡ named t o }
 {
-    if t.axis1 == o {
-        return true;
-    }
-    if t.axis2 == o {
-        return true;
-    }
-    t.axis3 == o
+    t.axis1 == o || t.axis2 == o || t.axis3 == o
 }
 
 // Whether each of the old axes 1 to 3 is shown; rule 30 is that one is not.
 pub fn is_permutation(t: Turn) -> bool
     ensures { result ≡ is_permutation t }
 {
-    if names(t, 1) {
-        if names(t, 2) {
-            return names(t, 3);
-        }
-    }
-    false
+    names(t, 1) && names(t, 2) && names(t, 3)
 }
 
 // An axis of n numbers, `step` bytes from one to the next.
@@ -69,16 +58,12 @@ fn axis_of(n: usize, step: usize, reversed: bool) -> Axis
 fn reversed_at(t: Turn, k: usize) -> bool
     ensures { result ≡ get_or (reversals t) k false }
 {
-    if k == 0 {
-        return t.reversed1;
+    match k {
+        0 => t.reversed1,
+        1 => t.reversed2,
+        2 => t.reversed3,
+        _ => false,
     }
-    if k == 1 {
-        return t.reversed2;
-    }
-    if k == 2 {
-        return t.reversed3;
-    }
-    false
 }
 
 // The axes of the old image, of b bytes for each voxel.
@@ -93,12 +78,10 @@ fn old_axes(lengths: [u64; 7], t: Turn, b: usize) -> [Axis; 7]
         down: 0,
     }; 7];
     let mut step = b;
-    let mut k: usize = 0;
-    while k < 7 {
+    for k in 0..7 {
         let n = lengths[k] as usize;
         axes[k] = axis_of(n, step, reversed_at(t, k));
-        step = step * n;
-        k += 1;
+        step *= n;
     }
     axes
 }

@@ -12,6 +12,18 @@ use header::{Header, Kind};
 use reorient::Turn;
 use rules::Image;
 
+// A turn that 30 and 23 let pass: a record whose image can be turned, where that image is, and the turn.
+#[derive(Clone, Copy)]
+pub struct Judged {
+    pub header: Header,
+    pub place: Image,
+    pub turn: Turn,
+    pub ghost placed: { place ≡ image_in header },
+    pub ghost permutation: { is_permutation turn ≡ true },
+    pub ghost finite: { not_finite turn header ≡ false },
+    pub ghost sized: { Sized header },
+}
+
 // The turned image alone, to its place.
 fn put_image(out: &mut [u8], src: &[u8], header: Header, from: usize, t: Turn)
     requires t_value { is_permutation t ≡ true }
@@ -56,33 +68,20 @@ pub fn put_header(out: &mut [u8], header: Header, t: Turn)
 }
 
 // The new file and, of a pair, the new image file.
-pub fn put_files(
-    out: &mut [u8],
-    out_image: &mut [u8],
-    file: &[u8],
-    image: &[u8],
-    header: Header,
-    place: Image,
-    t: Turn,
-)
-    requires t_value { is_permutation t ≡ true }
-    requires header_value { not_finite t header ≡ false }
-    requires sized { Sized header }
-    requires place_value { place ≡ image_in header }
-    requires room { Room header file.now image.now (length out.old) (length out_image.old) }
-    ensures { (out.new ≡ put out.old 0 (file_after t header file.now))
-        × (out_image.new ≡ put out_image.old 0 (image_after t header image.now)) }
+pub fn put_files(out: &mut [u8], out_image: &mut [u8], file: &[u8], image: &[u8], j: Judged)
+    requires { Room j.header file.now image.now (length out.old) (length out_image.old) }
+    ensures { (out.new ≡ put out.old 0 (file_after j.turn j.header file.now))
+        × (out_image.new ≡ put out_image.old 0 (image_after j.turn j.header image.now)) }
 {
-    let kind = header.kind;
-    match kind {
+    match j.header.kind {
         Kind::Single => {
-            put_holder(out, file, header, place, t);
-            put_header(out, header, t);
+            put_holder(out, file, j.header, j.place, j.turn);
+            put_header(out, j.header, j.turn);
         }
         Kind::Pair => {
             buffer::copy_in(out, 0, file);
-            put_header(out, header, t);
-            put_holder(out_image, image, header, place, t);
+            put_header(out, j.header, j.turn);
+            put_holder(out_image, image, j.header, j.place, j.turn);
         }
     }
 }

@@ -56,12 +56,9 @@ fn stay_finite(rows: Rows, dim: [i16; 8], t: Turn) -> bool
     let l = length_in(&dim, 1);
     let m = length_in(&dim, 2);
     let n = length_in(&dim, 3);
-    let srow_x = rows.srow_x;
-    let srow_y = rows.srow_y;
-    let srow_z = rows.srow_z;
-    let x = reorient_rows::stays_finite(srow_x, t, l, m, n);
-    let y = reorient_rows::stays_finite(srow_y, t, l, m, n);
-    let z = reorient_rows::stays_finite(srow_z, t, l, m, n);
+    let x = reorient_rows::stays_finite(rows.srow_x, t, l, m, n);
+    let y = reorient_rows::stays_finite(rows.srow_y, t, l, m, n);
+    let z = reorient_rows::stays_finite(rows.srow_z, t, l, m, n);
     x & (y & z)
 }
 
@@ -73,17 +70,11 @@ fn rows_after(rows: Rows, dim: [i16; 8], t: Turn) -> Rows
     let l = length_in(&dim, 1);
     let m = length_in(&dim, 2);
     let n = length_in(&dim, 3);
-    let srow_x = rows.srow_x;
-    let srow_y = rows.srow_y;
-    let srow_z = rows.srow_z;
-    let intent_name = rows.intent_name;
-    let magic = rows.magic;
     Rows {
-        srow_x: reorient_rows::row_after(srow_x, t, l, m, n),
-        srow_y: reorient_rows::row_after(srow_y, t, l, m, n),
-        srow_z: reorient_rows::row_after(srow_z, t, l, m, n),
-        intent_name,
-        magic,
+        srow_x: reorient_rows::row_after(rows.srow_x, t, l, m, n),
+        srow_y: reorient_rows::row_after(rows.srow_y, t, l, m, n),
+        srow_z: reorient_rows::row_after(rows.srow_z, t, l, m, n),
+        ..rows
     }
 }
 
@@ -92,60 +83,33 @@ pub fn not_finite(header: Header, t: Turn) -> bool
     requires { is_permutation t ≡ true }
     ensures { result ≡ not_finite t header }
 {
-    let quatern = header.quatern;
-    if quatern.sform_code <= 0 {
+    if header.quatern.sform_code <= 0 {
         return false;
     }
-    let rows = header.rows;
-    let dim = header.dim;
-    !stay_finite(rows, dim, t)
+    !stay_finite(header.rows, header.dim, t)
 }
 
 fn key_after(g: Key) -> Key
     ensures { result ≡ key_after g }
 {
-    let data_type = g.data_type;
-    let db_name = g.db_name;
-    Key {
-        sizeof_hdr: g.sizeof_hdr,
-        data_type,
-        db_name,
-        extents: g.extents,
-        session_error: g.session_error,
-        regular: g.regular,
-        dim_info: 0,
-    }
+    Key { dim_info: 0, ..g }
 }
 
 fn scale_after(g: Scale, t: Turn) -> Scale
     requires { is_permutation t ≡ true }
     ensures { result ≡ scale_after t g }
 {
-    let pixdim = g.pixdim;
     Scale {
-        pixdim: pixdims_after(pixdim, t),
-        vox_offset: g.vox_offset,
-        scl_slope: g.scl_slope,
-        scl_inter: g.scl_inter,
-        slice_end: g.slice_end,
+        pixdim: pixdims_after(g.pixdim, t),
         slice_code: 0,
-        xyzt_units: g.xyzt_units,
+        ..g
     }
 }
 
 fn quatern_after(g: Quatern) -> Quatern
     ensures { result ≡ quatern_after g }
 {
-    Quatern {
-        qform_code: 0,
-        sform_code: g.sform_code,
-        quatern_b: g.quatern_b,
-        quatern_c: g.quatern_c,
-        quatern_d: g.quatern_d,
-        qoffset_x: g.qoffset_x,
-        qoffset_y: g.qoffset_y,
-        qoffset_z: g.qoffset_z,
-    }
+    Quatern { qform_code: 0, ..g }
 }
 
 // The rows, which stay as they are where there is no sform.
@@ -154,13 +118,10 @@ fn sform_after(header: Header, t: Turn) -> Rows
     requires header_value { not_finite t header ≡ false }
     ensures { result ≡ sform_after t header }
 {
-    let rows = header.rows;
-    let quatern = header.quatern;
-    if quatern.sform_code <= 0 {
-        return rows;
+    if header.quatern.sform_code <= 0 {
+        return header.rows;
     }
-    let dim = header.dim;
-    rows_after(rows, dim, t)
+    rows_after(header.rows, header.dim, t)
 }
 
 // The whole record, with the sizes and the aligned fact as they were: no byte of the new header depends on them.
@@ -169,29 +130,12 @@ pub fn header_after(header: Header, t: Turn) -> Header
     requires header_value { not_finite t header ≡ false }
     ensures { result ≡ header_after t header }
 {
-    let order = header.order;
-    let kind = header.kind;
-    let dim = header.dim;
-    let spans = header.spans;
-    let sizes = header.sizes;
-    let key = header.key;
-    let intent = header.intent;
-    let scale = header.scale;
-    let display = header.display;
-    let quatern = header.quatern;
     Header {
-        order,
-        kind,
-        dim: dims_after(dim, t),
-        count: header.count,
-        spans,
-        sizes,
-        aligned: header.aligned,
-        key: key_after(key),
-        intent,
-        scale: scale_after(scale, t),
-        display,
-        quatern: quatern_after(quatern),
+        dim: dims_after(header.dim, t),
+        key: key_after(header.key),
+        scale: scale_after(header.scale, t),
+        quatern: quatern_after(header.quatern),
         rows: sform_after(header, t),
+        ..header
     }
 }

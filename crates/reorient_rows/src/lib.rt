@@ -19,19 +19,12 @@ struct Numbers {
     shift: f32,
 }
 
-// The last number of an axis of n.
-fn last_of(n: u16) -> u16
-    ensures { result ≡ n - 1 }
-{
-    if n == 0 { 0 } else { n - 1 }
-}
-
 // The shift after an old axis of n.
 fn shifted_by(reversed: bool, n: u16, column: f32, shift: f32) -> f32
     ensures { result ≡ shifted reversed n column shift }
 {
     if reversed {
-        shift + column * (last_of(n) as f32)
+        shift + column * (n.saturating_sub(1) as f32)
     } else {
         shift
     }
@@ -50,13 +43,11 @@ fn column_of(axis: usize, a: f32, b: f32, c: f32, s: f32) -> f32
     requires axis_bound { axis ≤ 3 }
     ensures { result ≡ float_at (a ∷ (b ∷ (c ∷ (s ∷ [])))) (axis - 1) }
 {
-    if axis == 1 {
-        return a;
+    match axis {
+        1 => a,
+        2 => b,
+        _ => c,
     }
-    if axis == 2 {
-        return b;
-    }
-    c
 }
 
 // The new row's numbers, from the old ones and the lengths of the old axes 1 to 3.
@@ -82,11 +73,10 @@ fn new_numbers(t: Turn, l: u16, m: u16, n: u16, a: f32, b: f32, c: f32, s: f32) 
 fn are_finite(v: Numbers) -> bool
     ensures { result ≡ (finite v.first && (finite v.second && (finite v.third && finite v.shift))) }
 {
-    let a = affine::is_finite(v.first);
-    let b = affine::is_finite(v.second);
-    let c = affine::is_finite(v.third);
-    let d = affine::is_finite(v.shift);
-    a & (b & (c & d))
+    affine::is_finite(v.first)
+        && affine::is_finite(v.second)
+        && affine::is_finite(v.third)
+        && affine::is_finite(v.shift)
 }
 
 // The same of the numbers of a row, which are finite themselves.
@@ -107,10 +97,7 @@ pub fn stays_finite(row: [u32; 4], t: Turn, l: u16, m: u16, n: u16) -> bool
     requires { is_permutation t ≡ true }
     ensures { result ≡ finite_after t l m n row }
 {
-    if affine::row_is_finite(row) {
-        return are_finite(numbers_of(row, t, l, m, n));
-    }
-    false
+    affine::row_is_finite(row) && are_finite(numbers_of(row, t, l, m, n))
 }
 
 // The new row, where its numbers are finite.

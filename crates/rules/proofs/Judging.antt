@@ -1,4 +1,6 @@
 -- What rules 5 to 10 decide, rule by rule: each law names the rules that have passed and the one that refuses.
+use Rattle.refusal.specs.declared.Rule.TheVariants.{AxisBelowOne, UnknownDatatype, WrongBitpix, OffsetNotWhole, OffsetOutside, ImageTooLarge}
+use Rattle.std.specs.Prelude.{Ok, Err, Some, None}
 use Prim.Native.Nat.{ℕ, zero, suc, ◌+◌, ◌*◌, ◌/◌, ◌<◌, ◌≤◌}
 use mathlib.Core.Path.{◌≡◌, refl, ap, sym, ◌∙◌}
 use mathlib.Core.Bool.{true, false, or-false, false≢true}
@@ -12,26 +14,24 @@ use mir.Val.{SFits, of_z}
 use Rattle.refusal.specs.declared.Refusal.{Refusal}
 use Rattle.refusal.specs.Table.{refusal, verdict}
 use Rattle.datatype.specs.declared.Format.{Format}
-use Rattle.datatype.specs.declared.Datatype.TheVariants.{Known, Unknown}
 use Rattle.datatype.specs.Datatypes.{datatype_of, is_number}
 use Rattle.datatype.proofs.Bits.{number_bits}
 use Rattle.datatype.proofs.Sound.{Sound, known_sound}
-use Rattle.offset.specs.declared.Offset.TheVariants.{Refused}
-use Rattle.offset.specs.Offset.{is_whole, whole_of, offset_limit, offset_of}
-use Rattle.offset.proofs.Answer.{refused_by}
+use Rattle.offset.specs.declared.Offset.{Offset}
+use Rattle.offset.specs.Offset.{is_whole, whole_of, whole_in, offset_limit, offset_of}
+use Rattle.offset.proofs.Answer.{refused_by, known_reads}
 use Rattle.number.specs.Natural.{natural_of}
 use Rattle.grid.specs.Axes.{first_below, image_bytes, image_limit, capped}
 use Rattle.grid.proofs.Axes.{first_least}
 use Rattle.header.specs.declared.Kind.{Kind}
 use Rattle.header.specs.declared.Kind.TheVariants.{Single, Pair}
 use Rattle.rules.specs.declared.Shape.{Shape}
-use Rattle.rules.specs.declared.Judged.TheVariants.{Passed, Failed}
-use Rattle.rules.specs.Rules.{first_bad, axis_count, offset_outside, bytes_of_image, image_of, aligned_in, judged_of}
+use Rattle.rules.specs.Rules.{first_bad, axis_count, offset_outside, bytes_of_image, image_of, aligned_in, judged_of, passed}
 
 -- that rules 5 and 6 have passed, and which format the datatype has
 pub record HasFormat (f : Shape) (t : Format) : Type 0 where
   pub axes : first_bad f ≡ 0
-  pub known : datatype_of f.datatype ≡ Known t
+  pub known : datatype_of f.datatype ≡ Some t
 
 -- that rules 7 and 8 have passed too, with the bytes of a voxel and the voxel offset as a whole number
 pub record HasOffset (f : Shape) (t : Format) (at : ℕ) : Type 0 where
@@ -39,6 +39,13 @@ pub record HasOffset (f : Shape) (t : Format) (at : ℕ) : Type 0 where
   pub bits : is_number f.bitpix (natural_of t.bits) ≡ true
   pub whole : is_whole f.vox_offset ≡ true
   pub value : whole_of f.vox_offset ≡ at
+
+-- both of an offset that the decoder answers
+pub offered : (f : Shape) (t : Format) (o : Offset) (at : ℕ) → first_bad f ≡ 0 → datatype_of f.datatype ≡ Some t
+    → is_number f.bitpix (natural_of t.bits) ≡ true → offset_of f.vox_offset ≡ Ok o → at ≡ whole_in (Ok o) → HasOffset f t at
+offered f t o at axes known bits e is =
+    let r = known_reads f.vox_offset o e in
+    record { format = record { axes = axes; known = known }; bits = bits; whole = r.whole; value = r.value ∙ sym is }
 
 -- an offset above the limit is outside in either kind
 pub beyond : (kind : Kind) (n len : ℕ) → offset_limit < n → offset_outside kind n len ≡ true
@@ -76,21 +83,21 @@ first_most dim n = by (first_below dim n) refl
     by (suc i) e = omega (arith, (first_least dim n i e).0)
 
 module _ (f : Shape) (len : ℕ) where
-  pub judged_5 : 0 < first_bad f → Failed (refusal 5 (40 + 2 * first_bad f)) ≡ judged_of f len
+  pub judged_5 : 0 < first_bad f → Err (refusal AxisBelowOne (40 + 2 * first_bad f)) ≡ judged_of f len
   unfolding judged_of verdict
   judged_5 h = simp (ne_eqb (first_bad f) 0 (λ e. omega arith))
 
-  pub judged_6 : first_bad f ≡ 0 → datatype_of f.datatype ≡ Unknown → Failed (refusal 6 70) ≡ judged_of f len
+  pub judged_6 : first_bad f ≡ 0 → datatype_of f.datatype ≡ None → Err (refusal UnknownDatatype 70) ≡ judged_of f len
   unfolding judged_of verdict
   judged_6 axes unknown = simp (axes, unknown)
 
   module _ (t : Format) where
-    pub judged_7 : HasFormat f t → is_number f.bitpix (natural_of t.bits) ≡ false → Failed (refusal 7 72) ≡ judged_of f len
+    pub judged_7 : HasFormat f t → is_number f.bitpix (natural_of t.bits) ≡ false → Err (refusal WrongBitpix 72) ≡ judged_of f len
     unfolding judged_of verdict
     judged_7 h bits = simp (h.axes, h.known, bits)
 
     judged_8 : HasFormat f t → is_number f.bitpix (natural_of t.bits) ≡ true → is_whole f.vox_offset ≡ false
-        → Failed (refusal 8 108) ≡ judged_of f len
+        → Err (refusal OffsetNotWhole 108) ≡ judged_of f len
     unfolding judged_of verdict
     judged_8 h bits whole = simp (h.axes, h.known, bits, whole)
 
@@ -106,28 +113,28 @@ module _ (f : Shape) (len : ℕ) where
       pub image_is : {n : ℕ} → n ≡ axis_count f.dim → capped (image_bytes f.dim n t.bytes) ≡ capped (bytes_of_image f)
       image_is e = rw (e, voxel_bytes_lem)
 
-      pub judged_9 : offset_outside f.kind at len ≡ true → Failed (refusal 9 108) ≡ judged_of f len
+      pub judged_9 : offset_outside f.kind at len ≡ true → Err (refusal OffsetOutside 108) ≡ judged_of f len
       unfolding judged_of verdict
       judged_9 outside = simp (h.format.axes, h.format.known, h.bits, h.whole, h.value, outside)
 
-      pub judged_10 : offset_outside f.kind at len ≡ false → image_limit < bytes_of_image f → Failed (refusal 10 40) ≡ judged_of f len
+      pub judged_10 : offset_outside f.kind at len ≡ false → image_limit < bytes_of_image f → Err (refusal ImageTooLarge 40) ≡ judged_of f len
       unfolding judged_of verdict
       judged_10 inside large =
           let e = lt-ltb image_limit (bytes_of_image f) large in
           simp (h.format.axes, h.format.known, h.bits, h.whole, h.value, inside, e)
 
-      pub judged_passed : offset_outside f.kind at len ≡ false → bytes_of_image f ≤ image_limit → Passed (image_of f) (aligned_in f) ≡ judged_of f len
+      pub judged_passed : offset_outside f.kind at len ≡ false → bytes_of_image f ≤ image_limit → passed (image_of f) (aligned_in f) ≡ judged_of f len
       unfolding judged_of verdict
       judged_passed inside small =
           let e = le-ltb image_limit (bytes_of_image f) small in
           simp (h.format.axes, h.format.known, h.bits, h.whole, h.value, inside, e)
 
     -- 8, or 9 by its upper bound, as the offset's reading refuses
-    pub judged_refused : HasFormat f t → is_number f.bitpix (natural_of t.bits) ≡ true → (r : Refusal) → offset_of f.vox_offset ≡ Refused r
-        → Failed r ≡ judged_of f len
+    pub judged_refused : HasFormat f t → is_number f.bitpix (natural_of t.bits) ≡ true → (r : Refusal) → offset_of f.vox_offset ≡ Err r
+        → Err r ≡ judged_of f len
     judged_refused h bits r e =
         let o = whole_of f.vox_offset in
-        refused_by f.vox_offset r e (λ w q. ap Failed q ∙ judged_8 h bits w)
+        refused_by f.vox_offset r e (λ w q. ap Err q ∙ judged_8 h bits w)
         (λ w l q.
-        ap Failed q
+        ap Err q
         ∙ judged_9 o (record { format = h; bits = bits; whole = w; value = refl }) (beyond f.kind o len l))

@@ -1,4 +1,6 @@
 -- Rule 2's test of dim[0], by its bits and by the number of axes; and what it decides of a record.
+use Rattle.refusal.specs.declared.Rule.TheVariants.{AxisCount}
+use Rattle.std.specs.Prelude.{Err}
 use Prim.Native.Nat.{ℕ, ◌≤◌}
 use mathlib.Core.Path.{◌≡◌, refl}
 use mathlib.Core.Bool.{Bool, true, false, ◌&&◌, and-false}
@@ -12,7 +14,6 @@ use Rattle.refusal.specs.Table.{refusal, verdict}
 use Rattle.number.specs.Natural.{natural_of}
 use Rattle.grid.specs.Axes.{dim_at}
 use Rattle.header.specs.declared.Header.{Header}
-use Rattle.rules.specs.declared.Judged.TheVariants.{Failed}
 use Rattle.rules.specs.Rules.{one_to_seven, judged_of, shape_of_record, record_judged}
 
 seven_above : (n : ℕ) → 32768 ≤ n → (leb 1 n && leb n 7) ≡ one_to_seven (to_z w16 n)
@@ -32,7 +33,7 @@ seven_natural (negsuc n) = refl
 
 -- what a record's rule 2 decides
 module _ (h : Header) where
-  pub record_2 : one_to_seven (dim_at h.dim 0) ≡ false → Failed (refusal 2 40) ≡ record_judged h
+  pub record_2 : one_to_seven (dim_at h.dim 0) ≡ false → Err (refusal AxisCount 40) ≡ record_judged h
   unfolding record_judged verdict
   record_2 e = rw e
 

@@ -1,5 +1,6 @@
 -- The sizes of fields that rules 2 and 5 to 10 pass: they can be computed from bitpix, and are those of the dims and the datatype; and
 -- when the record's sizes and its aligned fact pass the writer's test.
+use Rattle.std.specs.Prelude.{Some}
 use Prim.Native.Nat.{ℕ, ◌/◌, ◌≤◌}
 use mathlib.Core.Path.{◌≡◌, refl, ap, sym, ◌∙◌}
 use mathlib.Core.Bool.{Bool, true, false, not, and-eq-true_iff, beq, false≢true}
@@ -11,7 +12,6 @@ use Rattle.number.specs.Natural.{natural_of}
 use Rattle.number.specs.Same.{same_numbers}
 use Rattle.number.proofs.Same.{same_is, same_self}
 use Rattle.datatype.specs.declared.Format.{Format}
-use Rattle.datatype.specs.declared.Datatype.TheVariants.{Known}
 use Rattle.datatype.specs.Datatypes.{datatype_of}
 use Rattle.offset.specs.Offset.{whole_of}
 use Rattle.grid.specs.declared.Sizes.{Sizes}
@@ -33,7 +33,7 @@ axes_few z e =
 -- rules 6 and 7: the datatype has a format, and a voxel has its bytes
 pub record Formed (f : Shape) : Type 0 where
   pub format : Format
-  pub known : datatype_of f.datatype ≡ Known format
+  pub known : datatype_of f.datatype ≡ Some format
   pub bytes : natural_of f.bitpix / 8 ≡ format.bytes
 
 fields_formed : (f : Shape) (len : ℕ) → Fields f len → Formed f

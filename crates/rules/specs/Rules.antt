@@ -1,12 +1,13 @@
 -- The refusal table, rules 5 to 10: what is judged of a header's fields, whether they were read from a file or are about to
 -- be written; the sizes of the image and whether its offset is aligned; and rules 11 and 16, which ask whether a file holds it
 -- (01-scope.md, "Refusal numbers" and "The header rules"; 02-change-requests.md, P4 and P6).
-use Rattle.std.specs.Prelude.{ℕ, ◌+◌, ◌*◌, ◌/◌, ◌≡◌, Bool, true, false, not, ◌&&◌, ◌||◌, List, [], ◌∷◌, ltb, eqb, ℤ, pos}
+use Rattle.refusal.specs.declared.Rule.TheVariants.{AxisCount, AxisBelowOne, UnknownDatatype, WrongBitpix, OffsetNotWhole, OffsetOutside, ImageTooLarge}
+use Rattle.refusal.specs.declared.Refusal.{Refusal}
+use Rattle.datatype.specs.declared.Format.{Format}
+use Rattle.std.specs.Prelude.{ℕ, ◌+◌, ◌*◌, ◌/◌, ◌≡◌, Bool, true, false, not, ◌&&◌, ◌||◌, List, [], ◌∷◌, ltb, eqb, ℤ, pos, Err, Some, None, Result, Option, Ok}
 use Rattle.std.specs.Bool.{beq}
 use Rattle.std.specs.Int.Signed.{le_z}
 use Rattle.refusal.specs.Table.{Row, row, verdict, decided}
-use Rattle.datatype.specs.declared.Datatype.{Datatype}
-use Rattle.datatype.specs.declared.Datatype.TheVariants.{Known, Unknown}
 use Rattle.datatype.specs.Datatypes.{datatype_of, is_number}
 use Rattle.offset.specs.Offset.{is_whole, whole_of, offset_limit, aligned_of}
 use Rattle.number.specs.Natural.{natural_of}
@@ -19,8 +20,6 @@ use Rattle.header.specs.declared.Kind.{Kind}
 use Rattle.header.specs.declared.Kind.TheVariants.{Single, Pair}
 use Rattle.rules.specs.declared.Shape.{Shape}
 use Rattle.rules.specs.declared.Image.{Image}
-use Rattle.rules.specs.declared.Judged.{Judged}
-use Rattle.rules.specs.declared.Judged.TheVariants.{Passed, Failed}
 
 -- rule 2's test of dim[0]
 abbrev pub one_to_seven : ℤ → Bool
@@ -35,14 +34,14 @@ abbrev pub first_bad : Shape → ℕ
 first_bad f = first_below f.dim (axis_count f.dim)
 
 -- rule 6: the datatype is in the table
-abbrev pub is_known : Datatype → Bool
-is_known (Known t) = true
-is_known Unknown = false
+abbrev pub is_known : Option Format → Bool
+is_known (Some t) = true
+is_known None = false
 
 -- rule 7: bitpix is the datatype's
-abbrev pub states_bits : Datatype → ℤ → Bool
-states_bits (Known t) bitpix = is_number bitpix (natural_of t.bits)
-states_bits Unknown bitpix = false
+abbrev pub states_bits : Option Format → ℤ → Bool
+states_bits (Some t) bitpix = is_number bitpix (natural_of t.bits)
+states_bits None bitpix = false
 
 -- rule 9, of a whole voxel offset and the length of the header file. A record that is written has no file: its length is 0.
 abbrev pub offset_outside : Kind → ℕ → ℕ → Bool
@@ -56,12 +55,12 @@ bytes_of_image f = image_bytes f.dim (axis_count f.dim) (natural_of f.bitpix / 8
 -- rules 5 to 10, in the table's order, by the tests of 8 and 9: those of the voxel offset
 abbrev pub rows_by_offset : Shape → Bool → Bool → List Row
 rows_by_offset f broken outside =
-    row 5 (not (eqb (first_bad f) 0)) (40 + 2 * first_bad f)
-    ∷ row 6 (not (is_known (datatype_of f.datatype))) 70
-    ∷ row 7 (not (states_bits (datatype_of f.datatype) f.bitpix)) 72
-    ∷ row 8 broken 108
-    ∷ row 9 outside 108
-    ∷ row 10 (ltb image_limit (bytes_of_image f)) 40
+    row AxisBelowOne (not (eqb (first_bad f) 0)) (40 + 2 * first_bad f)
+    ∷ row UnknownDatatype (not (is_known (datatype_of f.datatype))) 70
+    ∷ row WrongBitpix (not (states_bits (datatype_of f.datatype) f.bitpix)) 72
+    ∷ row OffsetNotWhole broken 108
+    ∷ row OffsetOutside outside 108
+    ∷ row ImageTooLarge (ltb image_limit (bytes_of_image f)) 40
     ∷ []
 
 abbrev pub field_rows : Shape → ℕ → List Row
@@ -75,9 +74,13 @@ image_of f = record { offset = whole_of f.vox_offset; bytes = bytes_of_image f }
 abbrev pub aligned_in : Shape → Bool
 aligned_in f = aligned_of f.vox_offset
 
+-- what fields answer that pass: their image, and whether its offset is aligned
+abbrev pub passed : Image → Bool → Result (Image × Bool) Refusal
+passed image aligned = Ok (image, aligned)
+
 -- fields that none of the rules refuses, with their image and whether it is aligned; or the first refusal
-unfoldable pub judged_of : Shape → ℕ → Judged
-judged_of f len = decided (verdict (field_rows f len)) (Passed (image_of f) (aligned_in f)) Failed
+unfoldable pub judged_of : Shape → ℕ → Result (Image × Bool) Refusal
+judged_of f len = decided (verdict (field_rows f len)) (passed (image_of f) (aligned_in f)) Err
 
 -- the same of a record, as the writer judges it. 01-scope.md: "It refuses 2 when the record's dim[0] is not in 1..7 .., then 5..10
 -- as a reader in the record's order would (the pair's file length in 9 apart)".
@@ -93,20 +96,20 @@ shape_of_record h =
 
 -- rules 2 and 5 to 10 of a record with these fields
 abbrev pub shape_rows : Shape → List Row
-shape_rows f = row 2 (not (one_to_seven (dim_at f.dim 0))) 40 ∷ field_rows f 0
+shape_rows f = row AxisCount (not (one_to_seven (dim_at f.dim 0))) 40 ∷ field_rows f 0
 
 abbrev pub record_rows : Header → List Row
 record_rows h = shape_rows (shape_of_record h)
 
-unfoldable pub record_judged : Header → Judged
-record_judged h = decided (verdict (record_rows h)) (Passed (image_of (shape_of_record h)) (aligned_in (shape_of_record h))) Failed
+unfoldable pub record_judged : Header → Result (Image × Bool) Refusal
+record_judged h = decided (verdict (record_rows h)) (passed (image_of (shape_of_record h)) (aligned_in (shape_of_record h))) Err
 
 -- ---- What a record keeps of its image: the sizes, and whether its offset is aligned
 
 -- the bytes of a voxel of a datatype: none of one that is not in the table
-abbrev pub format_bytes : Datatype → ℕ
-format_bytes (Known t) = t.bytes
-format_bytes Unknown = 0
+abbrev pub format_bytes : Option Format → ℕ
+format_bytes (Some t) = t.bytes
+format_bytes None = 0
 
 -- P4: "the image byte total and the seven byte steps", as "the dims and datatype give" them
 unfoldable pub sizes_of : List ℤ → ℤ → Sizes

@@ -2,17 +2,17 @@
 // (01-scope.md, "Refusal numbers" and "The header rules").
 #![tactic(auto)]
 
-ghost use Rattle.std.specs.Prelude.{◌≡◌, true, ◌≤◌};
+ghost use Rattle.std.specs.Prelude.{◌≡◌, true, ◌≤◌, Err, Some, Ok};
 ghost use Rattle.number.specs.Natural.{natural_of};
 ghost use Rattle.datatype.specs.Datatypes.{datatype_of, is_number};
 ghost use Rattle.refusal.specs.declared.Refusal.{Refusal};
 ghost use Rattle.offset.specs.Offset.{offset_of};
 ghost use Rattle.rules.specs.Rules.{judged_of, shape_of_record, record_judged, offset_outside, axis_count, first_bad};
 
-use datatype::{Datatype, Format};
+use datatype::Format;
 use header::{Header, Kind};
 use offset::Offset;
-use refusal::Refusal;
+use refusal::{Refusal, Rule};
 
 // The fields that these rules judge. The one of a single byte is last, so that the compiler copies the others whole.
 #[derive(Clone, Copy)]
@@ -29,19 +29,6 @@ pub struct Shape {
 pub struct Image {
     pub offset: u64,
     pub bytes: u64,
-}
-
-// Where the image is, and whether its offset is aligned (02-change-requests.md, P6), as the offset's reading says; or the refusal.
-#[derive(Clone, Copy)]
-pub enum Judged {
-    Passed(Image, bool),
-    Failed(Refusal),
-}
-
-fn failed(number: u64, place: usize) -> Judged
-    ensures { result ≡ Judged.Failed (record { number = number; place = place }) }
-{
-    Judged::Failed(Refusal { number, place })
 }
 
 // dim[0], the number of axes.
@@ -65,53 +52,55 @@ pub fn offset_outside(kind: Kind, offset: u64, len: usize) -> bool
 }
 
 // Rules 9 and 10.
-fn judge_image(shape: Shape, len: usize, format: Format, offset: Offset) -> Judged
-    requires { (first_bad shape ≡ 0) × (datatype_of shape.datatype ≡ Datatype.Known format)
+fn judge_image(
+    shape: Shape,
+    len: usize,
+    format: Format,
+    offset: Offset,
+) -> Result<(Image, bool), Refusal>
+    requires { (first_bad shape ≡ 0) × (datatype_of shape.datatype ≡ Some format)
         × (is_number shape.bitpix (natural_of format.bits) ≡ true)
-        × (offset_of shape.vox_offset ≡ offset) × ((r : Refusal) → offset ≡ Offset.Refused r → ⊥) }
+        × (offset_of shape.vox_offset ≡ Ok offset) }
     ensures { result ≡ judged_of shape len }
 {
     let kind = shape.kind;
-    let at = offset::whole_in(offset);
+    let at = offset.whole();
     if offset_outside(kind, at, len) {
-        return failed(9, 108);
+        return Err(Rule::OffsetOutside.at(108));
     }
     let dim = shape.dim;
     let bytes = grid::image_bytes(&dim, axis_count(&dim), format.bytes);
     if grid::LIMIT < bytes {
-        return failed(10, 40);
+        return Err(Rule::ImageTooLarge.at(40));
     }
-    Judged::Passed(Image { offset: at, bytes }, offset::says_aligned(offset))
+    Ok((Image { offset: at, bytes }, offset.is_aligned()))
 }
 
 // Rules 7 and 8, and then the rest.
-fn judge_format(shape: Shape, len: usize, format: Format) -> Judged
-    requires { (first_bad shape ≡ 0) × (datatype_of shape.datatype ≡ Datatype.Known format) }
+fn judge_format(shape: Shape, len: usize, format: Format) -> Result<(Image, bool), Refusal>
+    requires { (first_bad shape ≡ 0) × (datatype_of shape.datatype ≡ Some format) }
     ensures { result ≡ judged_of shape len }
 {
     if shape.bitpix != format.bits {
-        return failed(7, 72);
+        return Err(Rule::WrongBitpix.at(72));
     }
-    let offset = offset::decode(shape.vox_offset);
-    match offset {
-        Offset::Refused(r) => Judged::Failed(r),
-        _ => judge_image(shape, len, format, offset),
-    }
+    let offset = offset::decode(shape.vox_offset)?;
+    judge_image(shape, len, format, offset)
 }
 
 // Rules 5 and 6, and then the rest. `len` is the length of the header file, which only a pair's rule 9 asks for.
-pub fn judge(shape: Shape, len: usize) -> Judged
+pub fn judge(shape: Shape, len: usize) -> Result<(Image, bool), Refusal>
     ensures { result ≡ judged_of shape len }
 {
     let dim = shape.dim;
     let bad = grid::first_below_one(&dim, axis_count(&dim));
     if 0 < bad {
-        return failed(5, 40 + 2 * bad);
+        return Err(Rule::AxisBelowOne.at(40 + 2 * bad));
     }
     let datatype = datatype::datatype_of(shape.datatype);
     match datatype {
-        Datatype::Known(format) => judge_format(shape, len, format),
-        Datatype::Unknown => failed(6, 70),
+        Some(format) => judge_format(shape, len, format),
+        None => Err(Rule::UnknownDatatype.at(70)),
     }
 }
 
@@ -133,17 +122,17 @@ fn shape_of(h: Header) -> Shape
 }
 
 // Rules 2 and 5 to 10 of a record.
-pub fn judge_record(h: Header) -> Judged
+pub fn judge_record(h: Header) -> Result<(Image, bool), Refusal>
     ensures { result ≡ record_judged h }
 {
     let shape = shape_of(h);
     let dim = shape.dim;
     let n = axis_count(&dim);
     if n < 1 {
-        return failed(2, 40);
+        return Err(Rule::AxisCount.at(40));
     }
     if 7 < n {
-        return failed(2, 40);
+        return Err(Rule::AxisCount.at(40));
     }
     judge(shape, 0)
 }

@@ -4,7 +4,6 @@
 
 ghost use Rattle.std.specs.Prelude.{◌≡◌, false, cond, ◌*◌, ◌/◌, ◌≤◌, ltb, length};
 ghost use Rattle.number.specs.Natural.{natural_of};
-ghost use Rattle.number.specs.Same.{same_numbers};
 ghost use Rattle.grid.specs.Axes.{dim_at, image_limit, seven_axes};
 ghost use Rattle.grid.specs.Sizes.{sizes_by, Measurable, same_sizes, Reaches};
 
@@ -31,12 +30,10 @@ fn sizes_of(dim: &[i16], n: usize, bytes: u64) -> Sizes
 {
     let mut steps = [0u64; 7];
     let mut step = bytes;
-    let mut k = 0;
-    while k < 7 {
+    for k in 0..7 {
         let after = next_step(dim, n, k + 1, step);
         steps[k] = step;
         step = after;
-        k += 1;
     }
     Sizes { total: step, steps }
 }
@@ -50,26 +47,11 @@ pub fn sizes_in(dim: [i16; 8], bitpix: i16) -> Sizes
     sizes_of(&dim, n, number::natural(bitpix) / 8)
 }
 
-fn same_steps(a: [u64; 7], b: [u64; 7]) -> bool
-    ensures { result ≡ same_numbers a b }
-{
-    let mut k = 0;
-    while k < 7 {
-        if a[k] != b[k] {
-            return false;
-        }
-        k += 1;
-    }
-    true
-}
-
 // Whether all eight numbers are the same.
 pub fn are_same(a: Sizes, b: Sizes) -> bool
     ensures { result ≡ same_sizes a b }
 {
-    let x = a.steps;
-    let y = b.steps;
-    (a.total == b.total) & same_steps(x, y)
+    a == b
 }
 
 // The bytes of the image before the voxel of an index: that number, or another above the image's limit where it is above that; OUTSIDE
@@ -80,14 +62,12 @@ pub fn bytes_before(dim: &[i16], n: usize, steps: &[u64], index: &[u64]) -> u64
     ensures { Reaches (seven_axes dim.now n) steps.now index.now result }
 {
     let mut sum = 0;
-    let mut k = 0;
-    while k < index.len() {
+    for k in 0..index.len() {
         let i = index[k];
         if grid::length_after(dim, n, k) <= i {
             return OUTSIDE;
         }
         sum += i * grid::limited(steps[k]);
-        k += 1;
     }
     sum
 }

@@ -1,4 +1,6 @@
 -- What the calls answer and leave, case by case.
+use Rattle.refusal.specs.declared.Rule.TheVariants.{ShortBuffer}
+use Rattle.std.specs.Prelude.{Ok, Err, Result}
 use mathlib.Core.Path.{◌≡◌, sym, ap, ◌∙◌}
 use mathlib.Core.Bool.{true, false}
 use mathlib.Core.List.{List, [], ◌∷◌, ◌++◌, append_assoc}
@@ -7,10 +9,7 @@ use native.Mathlib.Omega.{arith}
 use borrow.Author.Tests.{lt-ltb, le-ltb}
 use lib.ListN.{length, length-append}
 use Rattle.refusal.specs.declared.Refusal.{Refusal}
-use Rattle.refusal.specs.declared.Verdict.TheVariants as Verdicts
-use Rattle.refusal.specs.Table.{refusal, verdict}
-use Rattle.buffer.specs.declared.Filled.{Filled}
-use Rattle.buffer.specs.declared.Filled.TheVariants.{Written, Refused}
+use Rattle.refusal.specs.Table.{refusal, verdict, no_refusal}
 use Rattle.buffer.specs.Put.{put}
 use Rattle.buffer.specs.Fill.{Fills}
 use Rattle.buffer.proofs.Laws.{put_right}
@@ -25,14 +24,14 @@ use Rattle.slice_card.specs.Card.{padded_count, padded, padded_line, no_timing, 
 
 -- ---- a text for a buffer l: 22, or the text at its front
 module _ (l text : List ℕ) where
-  pub fills_none : length l < length text → Fills (room_for text (length l)) text l (Refused (refusal 22 0)) l
+  pub fills_none : length l < length text → Fills (room_for text (length l)) text l (Err (refusal ShortBuffer 0)) l
   unfolding verdict
   fills_none h = let e = lt-ltb (length l) (length text) h in (rw e, rw e)
 
   pub fills_whole : (d : List ℕ) (n : ℕ) → length text ≤ length l → n ≡ length text → d ≡ put l 0 text
-      → Fills (room_for text (length l)) text l (Written n) d
+      → Fills (room_for text (length l)) text l (Ok n) d
   unfolding verdict
-  fills_whole d n h en ed = let e = le-ltb (length l) (length text) h in (rw e (ap Written en), rw e ed)
+  fills_whole d n h en ed = let e = le-ltb (length l) (length text) h in (rw e (ap Ok en), rw e ed)
 
 -- ---- where timing is stated
 module _ (a : Acquisition) (n count : ℕ) (en : n ≡ acquired_count a) (ec : count ≡ padded_count a) where
@@ -65,12 +64,12 @@ module _ (a : Acquisition) where
 
 -- ---- by what reading answered
 module _ (r : Reading) (out : List ℕ) where
-  pub reading_refused : (q : Refusal) → r.verdict ≡ Verdicts.Refused q
-      → (Refused q ≡ card_answer r (length out)) × (out ≡ card_out r out)
+  pub reading_refused : (q : Refusal) → r.verdict ≡ Err q
+      → (Err q ≡ card_answer r (length out)) × (out ≡ card_out r out)
   unfolding card_answer card_out
   reading_refused q e = (rw e, rw e)
 
-  pub reading_accepted : r.verdict ≡ Verdicts.Accepted → (answer : Filled) (out' : List ℕ)
+  pub reading_accepted : r.verdict ≡ no_refusal → (answer : Result ℕ Refusal) (out' : List ℕ)
       → Fills (room_for (card_of r) (length out)) (card_of r) out answer out'
       → (answer ≡ card_answer r (length out)) × (out' ≡ card_out r out)
   unfolding card_answer card_out

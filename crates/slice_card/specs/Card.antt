@@ -1,9 +1,9 @@
 -- The slice card: 02-change-requests.md, P14. What stands on it is said by definitions that the library's calls promise: of reading
 -- `reading_of`, of the fields that say how the slices were acquired `acquisition_of`, `is_stated`, `acquired_count`, `slice_count` and `ranked_by`.
-use Rattle.std.specs.Prelude.{ℕ, ◌-◌, cond, List, [], ◌∷◌, ◌++◌, ltb, length}
-use Rattle.refusal.specs.declared.Verdict.{Verdict}
-use Rattle.refusal.specs.Table.{row, verdict, then}
-use Rattle.buffer.specs.declared.Filled.{Filled}
+use Rattle.refusal.specs.declared.Rule.TheVariants.{ShortBuffer}
+use Rattle.refusal.specs.declared.Refusal.{Refusal}
+use Rattle.std.specs.Prelude.{ℕ, ◌-◌, cond, List, [], ◌∷◌, ◌++◌, ltb, length, Result}
+use Rattle.refusal.specs.Table.{row, verdict, then, Verdict}
 use Rattle.buffer.specs.Fill.{filled_by, left_by}
 use Rattle.decimal.specs.Decimal.{decimal}
 use Rattle.reader.specs.declared.Reading.{Reading}
@@ -45,7 +45,7 @@ card_text a = ended (card_lines a)
 
 -- 22, for a buffer of `out` bytes
 abbrev pub room_for : List ℕ → ℕ → Verdict
-room_for text out = verdict (row 22 (ltb out (length text)) 0 ∷ [])
+room_for text out = verdict (row ShortBuffer (ltb out (length text)) 0 ∷ [])
 
 -- the card of what reading answered
 abbrev pub card_of : Reading → List ℕ
@@ -56,7 +56,7 @@ abbrev pub card_verdict : Reading → ℕ → Verdict
 card_verdict r out = then r.verdict (room_for (card_of r) out)
 
 -- what the call answers, with a buffer of `out` bytes,
-unfoldable pub card_answer : Reading → ℕ → Filled
+unfoldable pub card_answer : Reading → ℕ → Result ℕ Refusal
 card_answer r out = filled_by (card_verdict r out) (card_of r)
 
 -- and what it leaves in it

@@ -10,18 +10,15 @@ ghost use Rattle.reader.specs.Reading.{reading_of};
 ghost use Rattle.card_lines.specs.Lines.{ended};
 ghost use Rattle.slice_card.specs.Card.{padded_count, padded, no_timing, stated_lines, card_text, room_for, card_answer, card_out};
 
-use buffer::Filled;
 use reader::Reading;
-use refusal::{Refusal, Verdict};
+use refusal::{Refusal, Rule};
 use timing::Acquisition;
 
 // How many slices of the axis were not acquired.
 fn padded_count(a: Acquisition) -> u64
     ensures { result ≡ padded_count a }
 {
-    let axis = timing::slice_count(a) as usize;
-    let acquired = slice_rank::acquired_count(a) as usize;
-    number::minus(axis, acquired) as u64
+    timing::slice_count(a).saturating_sub(slice_rank::acquired_count(a))
 }
 
 // The last line, `padded COUNT`, into out from `at`; the answer is the place behind it.
@@ -34,7 +31,7 @@ fn put_padded(out: &mut [u8], at: usize, count: u64) -> usize
 }
 
 // The card where timing is stated.
-fn put_stated(a: Acquisition, out: &mut [u8]) -> Filled
+fn put_stated(a: Acquisition, out: &mut [u8]) -> Result<usize, Refusal>
     ensures { Fills (room_for (ended (stated_lines a)) (length out.old)) (ended (stated_lines a))
         out.old result out.new }
 {
@@ -42,57 +39,45 @@ fn put_stated(a: Acquisition, out: &mut [u8]) -> Filled
     let count = padded_count(a);
     let width = card_lines::lines_width(a, n) + decimal::width(count) + 8;
     if out.len() < width {
-        return Filled::Refused(Refusal {
-            number: 22,
-            place: 0,
-        });
+        return Err(Rule::ShortBuffer.at(0));
     }
     let at = card_lines::put_lines(out, a, n);
-    let end = put_padded(out, at, count);
-    Filled::Written(end)
+    Ok(put_padded(out, at, count))
 }
 
 // The card where it is not.
-fn put_unstated(out: &mut [u8]) -> Filled
+fn put_unstated(out: &mut [u8]) -> Result<usize, Refusal>
     ensures { Fills (room_for (ended (no_timing ∷ [])) (length out.old)) (ended (no_timing ∷ []))
         out.old result out.new }
 {
     if out.len() < 10 {
-        return Filled::Refused(Refusal {
-            number: 22,
-            place: 0,
-        });
+        return Err(Rule::ShortBuffer.at(0));
     }
     buffer::copy_in(out, 0, b"no timing\n");
-    Filled::Written(10)
+    Ok(10)
 }
 
 // The card by the fields that say how the slices were acquired: 22 where it does not fit. Any fields may be asked.
-pub fn card_by(a: Acquisition, out: &mut [u8]) -> Filled
+pub fn card_by(a: Acquisition, out: &mut [u8]) -> Result<usize, Refusal>
     ensures { Fills (room_for (card_text a) (length out.old)) (card_text a) out.old result out.new }
 {
     if timing::is_stated(a) {
-        return put_stated(a, out);
+        put_stated(a, out)
+    } else {
+        put_unstated(out)
     }
-    put_unstated(out)
 }
 
 // The card of what reading answered, of a whole file or of one that came in pieces: the reading's refusal, then 22.
-pub fn card_of(reading: Reading, out: &mut [u8]) -> Filled
+pub fn card_of(reading: Reading, out: &mut [u8]) -> Result<usize, Refusal>
     ensures { (result ≡ card_answer reading (length out.old)) × (out.new ≡ card_out reading out.old) }
 {
-    let verdict = reading.verdict;
-    match verdict {
-        Verdict::Refused(r) => Filled::Refused(r),
-        Verdict::Accepted => {
-            let header = reading.header;
-            card_by(timing::acquisition_of(header), out)
-        }
-    }
+    reading.verdict?;
+    card_by(timing::acquisition_of(reading.header), out)
 }
 
 // The card of a file: 1 to 15, then 22.
-pub fn card(file: &[u8], out: &mut [u8]) -> Filled
+pub fn card(file: &[u8], out: &mut [u8]) -> Result<usize, Refusal>
     ensures { (result ≡ card_answer (reading_of file.now) (length out.old))
         × (out.new ≡ card_out (reading_of file.now) out.old) }
 {

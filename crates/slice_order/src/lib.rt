@@ -4,46 +4,37 @@
 #![tactic(auto)]
 
 ghost use Rattle.std.specs.Prelude.{◌≡◌, ◌<◌, ◌≤◌};
-ghost use Rattle.slices.specs.Ranks.{count_of, order_in, alt_rank, alt2_rank, rank_of};
+ghost use Rattle.slices.specs.Ranks.{count_of, order_in, parity_rank, rank_of};
 ghost use Rattle.slice_order.specs.Slices.{slice_with};
 
-// The o that has the rank r by ALT, for n slices: the ranks below (n + 1) / 2 are those of the even o.
-fn alt_order(n: u16, r: u16) -> u16
-    requires { (r < n) × (n ≤ 32768) }
-    ensures { (result < n) × (alt_rank n result ≡ r) }
+// The o that has the rank r among n slices where the o of one parity come first: by ALT (first 0) the even ones, by ALT2 (first 1) the odd ones.
+fn parity_order(first: u16, n: u16, r: u16) -> u16
+    requires { (first < 2) × (r < n) × (n ≤ 32768) }
+    ensures { (result < n) × (parity_rank first n result ≡ r) }
 {
-    let evens = (n + 1) / 2;
-    if r < evens {
-        2 * r
+    let firsts = (n + 1 - first) / 2;
+    if r < firsts {
+        2 * r + first
     } else {
-        2 * (r - evens) + 1
+        2 * (r - firsts) + 1 - first
     }
 }
 
-// By ALT2: the ranks below n / 2 are those of the odd o.
-fn alt2_order(n: u16, r: u16) -> u16
-    requires { (r < n) × (n ≤ 32768) }
-    ensures { (result < n) × (alt2_rank n result ≡ r) }
-{
-    let odds = n / 2;
-    if r < odds { 2 * r + 1 } else { 2 * (r - odds) }
-}
-
 // By any of the six codes.
+#[tactic(auto, unfolding(slices::specs::Ranks::rank_of))]
 fn order_of(code: u8, n: u16, r: u16) -> u16
     requires { (r < n) × (n ≤ 32768) }
     ensures { (result < n) × (rank_of code n result ≡ r) }
 {
-    if code <= 2 {
-        return r;
+    match code {
+        0..=2 => r,
+        3..=4 => parity_order(0, n, r),
+        _ => parity_order(1, n, r),
     }
-    if code <= 4 {
-        return alt_order(n, r);
-    }
-    alt2_order(n, r)
 }
 
 // The slice that has this o.
+#[tactic(auto, unfolding(slices::specs::Ranks::order_in))]
 fn slice_from(code: u8, start: u16, end: u16, o: u16) -> u16
     requires { (start ≤ end) × (end ≤ 32767) × (o < count_of start end) }
     ensures { (start ≤ result) × (result ≤ end) × (order_in code start end result ≡ o) }
@@ -52,6 +43,7 @@ fn slice_from(code: u8, start: u16, end: u16, o: u16) -> u16
 }
 
 // The slice of the rank r among the slices start to end.
+#[tactic(auto, using(crate::proofs::Theorems::slice_found))]
 pub fn slice_of(code: u8, start: u16, end: u16, r: u16) -> u16
     requires { (start ≤ end) × (end ≤ 32767) × (r < count_of start end) }
     ensures { result ≡ slice_with code start end r }

@@ -1,4 +1,6 @@
 -- What holds of every position of a file: what the crate position shows of its record, with no hypothesis on the record left.
+use Rattle.refusal.specs.Table.{number_of}
+use Rattle.std.specs.Prelude.{Ok, Err}
 use mathlib.Core.Path.{◌≡◌}
 use mathlib.Core.Bool.{Bool, true, false, cond, ◌||◌, or-true}
 use mathlib.Core.List.{List, []}
@@ -22,11 +24,11 @@ use Rattle.layout.specs.File.{order_of}
 use Rattle.reader.specs.Reading.{judgement, reading_by, reading_of, IsAccepted}
 use Rattle.reader.proofs.Theorems.{answered_number}
 use Rattle.affine.specs.declared.Position.{Position}
-use Rattle.position.specs.declared.Positioned.TheVariants.{At, Refused}
 use Rattle.position.specs.Positions.{length_at, sform_of}
 use Rattle.position.proofs.Theorems.{WholeRows, ExactAt, Answered, position_by_exact, IsFinite, position_by_finite}
-use Rattle.position.proofs.Theorems.{unpositioned_never, refused_same, record_number, position_by_number}
+use Rattle.position.proofs.Theorems.{unpositioned_never, record_number, position_by_number}
 use Rattle.slice_position.specs.Files.{position_at}
+use Rattle.slice_position.proofs.Shown.{refused_same}
 
 -- the lengths of a file's axes
 axis_half : (dim : List ℤ) (axis : ℕ) → natural_of (dim_at dim axis) < 32768 → length_at dim axis < 32768
@@ -70,7 +72,7 @@ file_position_exact file w i j k e a =
     (position_by_exact f w i j k a (omega (arith, p.0, l.0)) (omega (arith, q.0, l.1)) (omega (arith, r.0, l.2)))
 
 -- Every position is finite.
-pub file_position_finite : (file : List ℕ) (i j k : ℕ) (p : Position) → position_at file i j k ≡ At p → IsFinite p
+pub file_position_finite : (file : List ℕ) (i j k : ℕ) (p : Position) → position_at file i j k ≡ Ok p → IsFinite p
 unfolding position_at
 file_position_finite file i j k p e =
     let d = decided_accepted (reading_of file).verdict (λ r. unpositioned_never) e in
@@ -80,8 +82,8 @@ file_position_finite file i j k p e =
 abbrev pub position_number : ℕ → Bool
 position_number n = between 1 15 n || record_number n
 
-pub position_number_lem : (file : List ℕ) (i j k : ℕ) (r : Refusal) → position_at file i j k ≡ Refused r → position_number r.number ≡ true
+pub position_number_lem : (file : List ℕ) (i j k : ℕ) (r : Refusal) → position_at file i j k ≡ Err r → position_number (number_of r.rule) ≡ true
 unfolding position_at
 position_number_lem file i j k r e =
-    answered_number position_number file r (λ n h. rw h) (λ q. refused_same q r)
-    (λ a d. rw (position_by_number (sform_of (reading_of file).header) i j k r d) (or-true (between 1 15 r.number))) e
+    answered_number position_number file r (λ n h. rw h) (λ q. refused_same {A = Position} q r)
+    (λ a d. rw (position_by_number (sform_of (reading_of file).header) i j k r d) (or-true (between 1 15 (number_of r.rule)))) e

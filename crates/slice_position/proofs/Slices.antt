@@ -1,4 +1,7 @@
 -- What holds of every slice answer of a file: what the crate timing shows of its record, with no hypothesis on the record left.
+use Rattle.refusal.specs.Table.{number_of}
+use Rattle.std.specs.Prelude.{Ok, Err}
+use Rattle.timing.specs.declared.Slice.TheVariants.{Padding, Timed}
 use mathlib.Core.Path.{◌≡◌, sym, ap, ◌∙◌}
 use mathlib.Core.Bool.{Bool, true, ◌||◌, or-true, false≢true}
 use mathlib.Core.List.{List, []}
@@ -18,11 +21,12 @@ use Rattle.layout.specs.File.{order_of}
 use Rattle.reader.specs.Reading.{judgement, reading_by, reading_of, IsAccepted}
 use Rattle.reader.proofs.Theorems.{answered_number}
 use Rattle.slices.specs.Ranks.{count_of}
-use Rattle.timing.specs.declared.Slice.TheVariants.{Refused, Padding, Timed}
 use Rattle.timing.specs.Slices.{is_stated, slice_count, first_slice, last_slice, acquisition_of, slice_in}
 use Rattle.timing.proofs.Theorems.{has_time, RoundedOnce, timed_is, rank_below_count, time_rounded, outside_padding}
-use Rattle.timing.proofs.Theorems.{refused_same, slice_by_number}
+use Rattle.timing.proofs.Theorems.{slice_by_number}
+use Rattle.timing.specs.declared.Slice.{Slice}
 use Rattle.slice_position.specs.Files.{slice_of}
+use Rattle.slice_position.proofs.Shown.{refused_same}
 
 -- slice_end is a number of 16 bits
 last_half : (file : List ℕ) → last_slice (acquisition_of (reading_of file).header) < 32768
@@ -34,8 +38,8 @@ last_half file = go (judgement file)
     go (stopped r) = natural_half (u16_at Little [] 120)
 
 module _ (file : List ℕ) (s : ℕ) where
-  module _ (r : ℕ) (t : Float) (timed : slice_of file s ≡ Timed r t) where
-    pub record_timed : IsAccepted file × (slice_in (reading_of file).header s ≡ Timed r t)
+  module _ (r : ℕ) (t : Float) (timed : slice_of file s ≡ Ok (Timed r t)) where
+    pub record_timed : IsAccepted file × (slice_in (reading_of file).header s ≡ Ok (Timed r t))
     unfolding slice_of
     record_timed = decided_accepted (reading_of file).verdict (λ q e. false≢true (ap has_time e)) timed
 
@@ -51,7 +55,7 @@ module _ (file : List ℕ) (s : ℕ) where
     file_time_rounded = time_rounded (acquisition_of (reading_of file).header) s r t record_timed.1 (last_half file)
 
   pub file_padding : let a = acquisition_of (reading_of file).header in
-      IsAccepted file → is_stated a ≡ true → s < slice_count a → (s < first_slice a) ⊎ (last_slice a < s) → slice_of file s ≡ Padding
+      IsAccepted file → is_stated a ≡ true → s < slice_count a → (s < first_slice a) ⊎ (last_slice a < s) → slice_of file s ≡ Ok Padding
   unfolding slice_of
   file_padding h e l o = rw h (outside_padding (acquisition_of (reading_of file).header) s e l o)
 
@@ -59,8 +63,8 @@ module _ (file : List ℕ) (s : ℕ) where
 abbrev pub slice_number : ℕ → Bool
 slice_number n = between 1 15 n || eqb n 17
 
-pub slice_number_lem : (file : List ℕ) (s : ℕ) (r : Refusal) → slice_of file s ≡ Refused r → slice_number r.number ≡ true
+pub slice_number_lem : (file : List ℕ) (s : ℕ) (r : Refusal) → slice_of file s ≡ Err r → slice_number (number_of r.rule) ≡ true
 unfolding slice_of
 slice_number_lem file s r e =
-    answered_number slice_number file r (λ n h. rw h) (λ q. refused_same q r)
-    (λ a d. rw (slice_by_number (acquisition_of (reading_of file).header) s r d) (or-true (between 1 15 r.number))) e
+    answered_number slice_number file r (λ n h. rw h) (λ q. refused_same {A = Slice} q r)
+    (λ a d. rw (slice_by_number (acquisition_of (reading_of file).header) s r d) (or-true (between 1 15 (number_of r.rule)))) e

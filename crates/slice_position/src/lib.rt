@@ -4,15 +4,16 @@
 #![tactic(auto)]
 
 ghost use Rattle.std.specs.Prelude.{◌≡◌, ◌≤◌, length};
-ghost use Rattle.slice_position.specs.Files.{acquisition_in, slice_of, ranked_of, sform_in, position_at};
+ghost use Rattle.slice_position.specs.Files.{acquisition_in, acquisition_at, slice_of, ranked_of, sform_in, sform_at, position_at};
 
-use field::Order;
-use outline::Outlined;
-use position::{Positioned, Sform};
-use slice_rank::Ranked;
+use affine::Position;
+use field::{Number, Order};
+use position::Sform;
+use refusal::Refusal;
 use timing::{Acquisition, Slice};
 
 // The fields that slice timing is read from.
+#[tactic(auto, unfolding(crate::specs::Files::acquisition_in))]
 fn acquisition_in(file: &[u8], order: Order) -> Acquisition
     requires { 348 ≤ length file.now }
     ensures { result ≡ acquisition_in order file.now }
@@ -20,68 +21,64 @@ fn acquisition_in(file: &[u8], order: Order) -> Acquisition
     Acquisition {
         dim: header::dims(file, order),
         dim_info: file[39],
-        slice_start: field::read_i16(file, 74, order),
-        slice_end: field::read_i16(file, 120, order),
+        slice_start: i16::read(file, 74, order),
+        slice_end: i16::read(file, 120, order),
         slice_code: file[122],
-        slice_duration: field::read_u32(file, 132, order),
+        slice_duration: u32::read(file, 132, order),
     }
+}
+
+// The same, after rules 1 to 15.
+fn acquisition_of(file: &[u8]) -> Result<Acquisition, Refusal>
+    ensures { result ≡ acquisition_at file.now }
+{
+    let outline = outline::outline_of(file, 0)?;
+    Ok(acquisition_in(file, outline.layout.order))
 }
 
 // The slice s of a file.
-pub fn slice_at(file: &[u8], s: u64) -> Slice
+#[tactic(auto, using(crate::proofs::Shown::slice_refused, crate::proofs::Shown::slice_answered))]
+pub fn slice_at(file: &[u8], s: u64) -> Result<Slice, Refusal>
     ensures { result ≡ slice_of file.now s }
 {
-    let outlined = outline::outline_of(file, 0);
-    match outlined {
-        Outlined::Hidden(r) => Slice::Refused(r),
-        Outlined::Shown(outline) => {
-            let layout = outline.layout;
-            let order = layout.order;
-            timing::slice_by(acquisition_in(file, order), s)
-        }
-    }
+    timing::slice_by(acquisition_of(file)?, s)
 }
 
 // The slice of a rank of a file.
-pub fn slice_of_rank(file: &[u8], rank: u64) -> Ranked
+#[tactic(auto, using(crate::proofs::Shown::rank_refused, crate::proofs::Shown::rank_answered))]
+pub fn slice_of_rank(file: &[u8], rank: u64) -> Result<Option<u16>, Refusal>
     ensures { result ≡ ranked_of file.now rank }
 {
-    let outlined = outline::outline_of(file, 0);
-    match outlined {
-        Outlined::Hidden(r) => Ranked::Refused(r),
-        Outlined::Shown(outline) => {
-            let layout = outline.layout;
-            let order = layout.order;
-            slice_rank::ranked_by(acquisition_in(file, order), rank)
-        }
-    }
+    slice_rank::ranked_by(acquisition_of(file)?, rank)
 }
 
 // The fields that Method 3 reads.
+#[tactic(auto, unfolding(crate::specs::Files::sform_in))]
 fn sform_in(file: &[u8], order: Order) -> Sform
     requires { 348 ≤ length file.now }
     ensures { result ≡ sform_in order file.now }
 {
     Sform {
         dim: header::dims(file, order),
-        sform_code: field::read_i16(file, 254, order),
-        srow_x: header::u32x4(file, 280, order),
-        srow_y: header::u32x4(file, 296, order),
-        srow_z: header::u32x4(file, 312, order),
+        sform_code: i16::read(file, 254, order),
+        srow_x: field::numbers::<u32, 4>(file, 280, order),
+        srow_y: field::numbers::<u32, 4>(file, 296, order),
+        srow_z: field::numbers::<u32, 4>(file, 312, order),
     }
 }
 
+// The same, after rules 1 to 15.
+fn sform_of(file: &[u8]) -> Result<Sform, Refusal>
+    ensures { result ≡ sform_at file.now }
+{
+    let outline = outline::outline_of(file, 0)?;
+    Ok(sform_in(file, outline.layout.order))
+}
+
 // The position of the voxel i, j, k of a file.
-pub fn position_of(file: &[u8], i: u64, j: u64, k: u64) -> Positioned
+#[tactic(auto, using(crate::proofs::Shown::position_refused, crate::proofs::Shown::position_answered))]
+pub fn position_of(file: &[u8], i: u64, j: u64, k: u64) -> Result<Position, Refusal>
     ensures { result ≡ position_at file.now i j k }
 {
-    let outlined = outline::outline_of(file, 0);
-    match outlined {
-        Outlined::Hidden(r) => Positioned::Refused(r),
-        Outlined::Shown(outline) => {
-            let layout = outline.layout;
-            let order = layout.order;
-            position::position_by(sform_in(file, order), i, j, k)
-        }
-    }
+    position::position_by(sform_of(file)?, i, j, k)
 }

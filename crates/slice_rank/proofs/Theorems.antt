@@ -1,6 +1,9 @@
 -- P8 of the fields that state timing (02-change-requests.md): the ranks of slice_start to slice_end are the numbers 0 to N-1, each once; a slice
 -- comes back from its rank and a rank from its slice, whether or not its time is infinite; and the mirror law. The crate slice_position has
 -- the same of files.
+use Rattle.refusal.specs.declared.Rule.TheVariants.{IndexOutside}
+use Rattle.std.specs.Prelude.{Ok, Err, Some, None}
+use Rattle.timing.specs.declared.Slice.TheVariants.{Timed}
 use mathlib.Core.Path.{◌≡◌, refl, sym, ap, ◌∙◌}
 use mathlib.Core.Bool.{Bool, true, false, cond, not, ◌||◌}
 use Prim.Native.Nat.{ℕ, ◌+◌, ◌-◌, ◌≤◌, ◌<◌}
@@ -10,7 +13,7 @@ use borrow.Author.Tests.{leb-false, le-leb, lt-leb, le-ltb}
 use lib.Dec.{leb, ltb, eqb}
 use lib.Ieee.{Float}
 use Rattle.refusal.specs.declared.Refusal.{Refusal}
-use Rattle.refusal.specs.Table.{refusal}
+use Rattle.refusal.specs.Table.{refusal, number_of}
 use Rattle.slices.specs.Ranks.{rank_in}
 use Rattle.slices.specs.Times.{time_of}
 use Rattle.slice_order.specs.EachOnce.{EachOnce, Between}
@@ -18,11 +21,9 @@ use Rattle.slice_order.specs.Slices.{mirror_code}
 use Rattle.slice_order.proofs.Theorems.{each_once, slice_found, rank_found}
 use Rattle.slice_order.proofs.Mirror.{mirror}
 use Rattle.timing.specs.declared.Acquisition.{Acquisition}
-use Rattle.timing.specs.declared.Slice.TheVariants.{Timed}
 use Rattle.timing.specs.Slices.{is_stated, first_slice, last_slice, rank_at, slice_by, timed_by}
 use Rattle.timing.proofs.Answers.{stated_has, slice_acquired}
 use Rattle.timing.proofs.Theorems.{timed_is}
-use Rattle.slice_rank.specs.declared.Ranked.TheVariants.{Refused, Unstated, At}
 use Rattle.slice_rank.specs.Ranked.{acquired_count, slice_of_rank, ranked_by}
 
 -- the slices slice_start to slice_end
@@ -43,19 +44,19 @@ module _ (a : Acquisition) (stated : is_stated a ≡ true) where
   ranks_each_once = each_once a.slice_code (first_slice a) (last_slice a) ordered
 
   -- a rank of N or more is refused, and one below is answered
-  pub rank_outside : (r : ℕ) → acquired_count a ≤ r → ranked_by a r ≡ Refused (refusal 17 0)
+  pub rank_outside : (r : ℕ) → acquired_count a ≤ r → ranked_by a r ≡ Err (refusal IndexOutside 0)
   unfolding ranked_by
   rank_outside r o = simp (stated, le-leb (acquired_count a) r o)
 
-  pub rank_inside : (r : ℕ) → r < acquired_count a → ranked_by a r ≡ At (slice_of_rank a r)
+  pub rank_inside : (r : ℕ) → r < acquired_count a → ranked_by a r ≡ Ok (Some (slice_of_rank a r))
   unfolding ranked_by
   rank_inside r l = simp (stated, lt-leb (acquired_count a) r l)
 
   -- a slice comes back from its rank
-  pub slice_again : (s : ℕ) → Acquired a s → ranked_by a (rank_at a s) ≡ At s
+  pub slice_again : (s : ℕ) → Acquired a s → ranked_by a (rank_at a s) ≡ Ok (Some s)
   slice_again s k =
       rank_inside (rank_at a s) (ranks_each_once.below s k)
-      ∙ ap At (slice_found a.slice_code (first_slice a) (last_slice a) ordered s (rank_at a s) k refl)
+      ∙ ap (λ (x : ℕ). Ok (Some x)) (slice_found a.slice_code (first_slice a) (last_slice a) ordered s (rank_at a s) k refl)
 
   -- "a slice's rank under one is the rank under the other of the slice at start + end - s"
   pub ranks_mirror : (b : Acquisition)
@@ -65,7 +66,7 @@ module _ (a : Acquisition) (stated : is_stated a ≡ true) where
       mirror a.slice_code (first_slice a) (last_slice a) s (stated_has a stated).coded k
       ∙ sym (λ i. rank_in (code i) (first i) (last i) (first_slice a + last_slice a - s))
 
-pub rank_unstated : (a : Acquisition) (r : ℕ) → is_stated a ≡ false → ranked_by a r ≡ Unstated
+pub rank_unstated : (a : Acquisition) (r : ℕ) → is_stated a ≡ false → ranked_by a r ≡ Ok None
 unfolding ranked_by
 rank_unstated a r e = rw e
 
@@ -77,14 +78,14 @@ pub record IsRanked (a : Acquisition) (r s : ℕ) : Type 0 where
   pub rank : rank_at a s ≡ r
 
 module _ (a : Acquisition) (r s : ℕ) where
-  pub ranked_is : ranked_by a r ≡ At s → IsRanked a r s
+  pub ranked_is : ranked_by a r ≡ Ok (Some s) → IsRanked a r s
   unfolding ranked_by
   ranked_is = go (is_stated a) (leb (acquired_count a) r) refl refl
     where
       go : (p q : Bool) → is_stated a ≡ p → leb (acquired_count a) r ≡ q
-          → cond (not p) Unstated (cond q (Refused (refusal 17 0)) (At (slice_of_rank a r))) ≡ At s → IsRanked a r s
-      go false q m n e = let z : ◌≡◌ {A = ℕ} 0 1 = cc in absurd (omega arith)
-      go true true m n e = let z : ◌≡◌ {A = ℕ} 0 1 = cc in absurd (omega arith)
+          → cond (not p) (Ok None) (cond q (Err (refusal IndexOutside 0)) (Ok (Some (slice_of_rank a r)))) ≡ Ok (Some s) → IsRanked a r s
+      go false q m n e = cc
+      go true true m n e = cc
       go true false m n e =
           let l = leb-false (acquired_count a) r n in
           let p = rank_found a.slice_code (first_slice a) (last_slice a) (ordered a m) r l in
@@ -93,31 +94,28 @@ module _ (a : Acquisition) (r s : ℕ) where
 
   -- ---- both calls agree
   -- the rank that `slice_by` answers of a slice leads back to it
-  pub timed_ranked : (t : Float) → slice_by a s ≡ Timed r t → ranked_by a r ≡ At s
+  pub timed_ranked : (t : Float) → slice_by a s ≡ Ok (Timed r t) → ranked_by a r ≡ Ok (Some s)
   timed_ranked t e =
       let w = timed_is a s r t e in
       ap (ranked_by a) (sym w.rank) ∙ slice_again a w.stated s (w.first, w.last)
 
   -- of the slice of a rank `slice_by` answers that rank with its time, and unstated where that is infinite
-  pub ranked_timed : ranked_by a r ≡ At s → slice_by a s ≡ timed_by r (time_of a.slice_duration r)
+  pub ranked_timed : ranked_by a r ≡ Ok (Some s) → slice_by a s ≡ Ok (timed_by r (time_of a.slice_duration r))
   ranked_timed e =
       let w = ranked_is e in
       let h = stated_has a w.stated in
       let outside : (ltb s (first_slice a) || ltb (last_slice a) s) ≡ false =
       rw (le-ltb s (first_slice a) w.acquired.0, le-ltb (last_slice a) s w.acquired.1) in
       sym (slice_acquired a s w.stated (omega (arith, w.acquired.1, h.inside)) outside)
-      ∙ (λ i. timed_by (w.rank i) (time_of a.slice_duration (w.rank i)))
+      ∙ (λ i. Ok (timed_by (w.rank i) (time_of a.slice_duration (w.rank i))))
 
 -- ---- the number of a refusal: 17 alone
-pub refused_same : (q r : Refusal) → Refused q ≡ Refused r → q ≡ r
-refused_same q r e = cc
-
-pub ranked_number : (a : Acquisition) (r : ℕ) (q : Refusal) → ranked_by a r ≡ Refused q → eqb q.number 17 ≡ true
+pub ranked_number : (a : Acquisition) (r : ℕ) (q : Refusal) → ranked_by a r ≡ Err q → eqb (number_of q.rule) 17 ≡ true
 unfolding ranked_by
 ranked_number a r q = go (is_stated a) (leb (acquired_count a) r)
   where
-    go : (s t : Bool) → cond (not s) Unstated (cond t (Refused (refusal 17 0)) (At (slice_of_rank a r))) ≡ Refused q
-        → eqb q.number 17 ≡ true
-    go false t e = let z : ◌≡◌ {A = ℕ} 0 1 = cc in absurd (omega arith)
-    go true true e = rw (← refused_same (refusal 17 0) q e)
-    go true false e = let z : ◌≡◌ {A = ℕ} 0 1 = cc in absurd (omega arith)
+    go : (s t : Bool) → cond (not s) (Ok None) (cond t (Err (refusal IndexOutside 0)) (Ok (Some (slice_of_rank a r)))) ≡ Err q
+        → eqb (number_of q.rule) 17 ≡ true
+    go false t e = cc
+    go true true e = let same : refusal IndexOutside 0 ≡ q = cc in rw (← same)
+    go true false e = cc

@@ -1,14 +1,14 @@
 -- The slice of a rank: 02-change-requests.md, P8, "A call finds the slice again from a rank: after reading, unstated is tried first, then 17 for a
 -- rank of N or more. An infinite time doesn't matter to either." Reading is for the caller. Any fields have an answer.
-use Rattle.std.specs.Prelude.{ℕ, cond, not, leb}
+use Rattle.refusal.specs.declared.Rule.TheVariants.{IndexOutside}
+use Rattle.refusal.specs.declared.Refusal.{Refusal}
+use Rattle.std.specs.Prelude.{ℕ, cond, not, leb, Ok, Err, Some, None, Result, Option}
 use Rattle.refusal.specs.Table.{refusal}
 use Rattle.header.specs.declared.Header.{Header}
 use Rattle.slices.specs.Ranks.{count_of}
 use Rattle.slice_order.specs.Slices.{slice_with}
 use Rattle.timing.specs.declared.Acquisition.{Acquisition}
 use Rattle.timing.specs.Slices.{is_stated, first_slice, last_slice, acquisition_of}
-use Rattle.slice_rank.specs.declared.Ranked.{Ranked}
-use Rattle.slice_rank.specs.declared.Ranked.TheVariants.{Refused, Unstated, At}
 
 -- N, the number of acquired slices
 abbrev pub acquired_count : Acquisition → ℕ
@@ -19,12 +19,12 @@ abbrev pub slice_of_rank : Acquisition → ℕ → ℕ
 slice_of_rank a r = slice_with a.slice_code (first_slice a) (last_slice a) r
 
 -- "unstated is tried first, then 17 for a rank of N or more". No time is asked: "An infinite time doesn't matter".
-unfoldable pub ranked_by : Acquisition → ℕ → Ranked
+unfoldable pub ranked_by : Acquisition → ℕ → Result (Option ℕ) Refusal
 ranked_by a r =
-    cond (not (is_stated a)) Unstated
-    (cond (leb (acquired_count a) r) (Refused (refusal 17 0))
-    (At (slice_of_rank a r)))
+    cond (not (is_stated a)) (Ok None)
+    (cond (leb (acquired_count a) r) (Err (refusal IndexOutside 0))
+    (Ok (Some (slice_of_rank a r))))
 
 -- the same by a record
-abbrev pub ranked_in : Header → ℕ → Ranked
+abbrev pub ranked_in : Header → ℕ → Result (Option ℕ) Refusal
 ranked_in h r = ranked_by (acquisition_of h) r

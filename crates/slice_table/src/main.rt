@@ -8,84 +8,57 @@ ghost use Rattle.std.specs.Prelude.{◌≡◌, true, ◌<◌};
 ghost use Rattle.std.specs.Float.Ieee.Scale.{finite};
 
 use field::Order;
-use position::Positioned;
-use slice_rank::Ranked;
 use std::io;
 use timing::Slice;
 
-fn say(rt: &impl Print, text: &[u8]) -> io::Result<()> {
-    rt.write_all(text)
-}
-
-fn say_number(rt: &impl Print, n: u64) -> io::Result<()> {
-    print!(rt; "{n}")
-}
-
-fn say_bits(rt: &impl Print, bits: u32) -> io::Result<()> {
-    print!(rt; "{bits:08x}")
-}
-
-// A number by its bit pattern.
-fn say_float(rt: &impl Print, x: f32) -> io::Result<()>
+// A number's bit pattern.
+#[tactic(auto, using(number::proofs::Floats::finite_no_nan))]
+fn pattern(x: f32) -> u32
     requires { finite x ≡ true }
 {
-    say_bits(rt, f32::to_bits(x))
+    x.to_bits()
 }
 
 // A pair's header file with three axes, a byte a voxel.
 fn put_shape(file: &mut [u8], a: i16, b: i16, c: i16) {
-    store::put_i32(file, 0, Order::Little, 348);
-    store::put_i16(file, 40, Order::Little, 3);
-    store::put_i16(file, 42, Order::Little, a);
-    store::put_i16(file, 44, Order::Little, b);
-    store::put_i16(file, 46, Order::Little, c);
-    store::put_i16(file, 70, Order::Little, 2);
-    store::put_i16(file, 72, Order::Little, 8);
-    store::put_u32(file, 344, Order::Little, 0x0031_696e);
+    store::put(file, 0, Order::Little, 348i32);
+    store::put(file, 40, Order::Little, 3i16);
+    store::put(file, 42, Order::Little, a);
+    store::put(file, 44, Order::Little, b);
+    store::put(file, 46, Order::Little, c);
+    store::put(file, 70, Order::Little, 2i16);
+    store::put(file, 72, Order::Little, 8i16);
+    store::put(file, 344, Order::Little, 0x0031_696eu32);
 }
 
 // Slices along the third axis, by the bit pattern of the time that each takes.
 fn put_timing(file: &mut [u8], code: u8, start: i16, end: i16, duration: u32) {
     store::put_byte(file, 39, 0x30);
-    store::put_i16(file, 74, Order::Little, start);
-    store::put_i16(file, 120, Order::Little, end);
+    store::put(file, 74, Order::Little, start);
+    store::put(file, 120, Order::Little, end);
     store::put_byte(file, 122, code);
-    store::put_u32(file, 132, Order::Little, duration);
+    store::put(file, 132, Order::Little, duration);
 }
 
 // A row of the affine map, by the bit patterns of its numbers.
-fn put_row(file: &mut [u8], at: usize, a: u32, b: u32, c: u32, d: u32)
+fn put_row(file: &mut [u8], at: usize, row: [u32; 4])
     requires { at < 4294967000 }
 {
-    store::put_u32(file, at, Order::Little, a);
-    store::put_u32(file, at + 4, Order::Little, b);
-    store::put_u32(file, at + 8, Order::Little, c);
-    store::put_u32(file, at + 12, Order::Little, d);
-}
-
-fn print_refusal(rt: &impl Print, number: u64, place: usize) -> io::Result<()> {
-    say(rt, b" refused ")?;
-    say_number(rt, number)?;
-    say(rt, b" at ")?;
-    say_number(rt, place as u64)
+    store::put(file, at, Order::Little, row[0]);
+    store::put(file, at + 4, Order::Little, row[1]);
+    store::put(file, at + 8, Order::Little, row[2]);
+    store::put(file, at + 12, Order::Little, row[3]);
 }
 
 fn print_slice(rt: &impl Print, file: &[u8], s: u64) -> io::Result<()> {
-    say(rt, b"slice ")?;
-    say_number(rt, s)?;
-    let answer = slice_position::slice_at(file, s);
-    match answer {
-        Slice::Refused(r) => print_refusal(rt, r.number, r.place)?,
-        Slice::Unstated => say(rt, b" unstated")?,
-        Slice::Padding => say(rt, b" padding")?,
-        Slice::Timed(rank, time) => {
-            say(rt, b" rank ")?;
-            say_number(rt, rank as u64)?;
-            say(rt, b" time ")?;
-            say_float(rt, time)?;
-        }
+    print!(rt; "slice {s}")?;
+    match slice_position::slice_at(file, s) {
+        Err(r) => print!(rt; " {r}")?,
+        Ok(Slice::Unstated) => print!(rt; " unstated")?,
+        Ok(Slice::Padding) => print!(rt; " padding")?,
+        Ok(Slice::Timed(rank, time)) => { print!(rt; " rank {rank} time {:08x}", pattern(time))? }
     }
-    say(rt, b"\n")
+    println!(rt)
 }
 
 // The answers for all seven slices, and for the first index outside the axis.
@@ -97,18 +70,12 @@ fn print_slices(rt: &impl Print, file: &[u8]) -> io::Result<()> {
 }
 
 fn print_ranked(rt: &impl Print, file: &[u8], rank: u64) -> io::Result<()> {
-    say(rt, b"rank ")?;
-    say_number(rt, rank)?;
-    let answer = slice_position::slice_of_rank(file, rank);
-    match answer {
-        Ranked::Refused(r) => print_refusal(rt, r.number, r.place)?,
-        Ranked::Unstated => say(rt, b" unstated")?,
-        Ranked::At(s) => {
-            say(rt, b" slice ")?;
-            say_number(rt, s as u64)?;
-        }
+    print!(rt; "rank {rank}")?;
+    match slice_position::slice_of_rank(file, rank) {
+        Err(r) => println!(rt; " {r}"),
+        Ok(None) => println!(rt; " unstated"),
+        Ok(Some(s)) => println!(rt; " slice {s}"),
     }
-    say(rt, b"\n")
 }
 
 // The slices of all five ranks, and of the first number that is no rank.
@@ -119,25 +86,17 @@ fn print_acquired(rt: &impl Print, file: &[u8]) -> io::Result<()> {
     Ok(())
 }
 
-fn print_rank(rt: &impl Print, file: &[u8], s: u64) -> io::Result<()> {
-    let answer = slice_position::slice_at(file, s);
-    match answer {
-        Slice::Timed(rank, _) => {
-            say(rt, b" ")?;
-            say_number(rt, rank as u64)
-        }
-        _ => say(rt, b" none"),
-    }
-}
-
 // The ranks of the slices 1 to last.
 fn print_ranks(rt: &impl Print, file: &[u8], last: u8) -> io::Result<()>
     requires { last < 7 }
 {
     for s in 1..=last {
-        print_rank(rt, file, s as u64)?;
+        match slice_position::slice_at(file, s as u64) {
+            Ok(Slice::Timed(rank, _)) => print!(rt; " {rank}")?,
+            _ => print!(rt; " none")?,
+        }
     }
-    say(rt, b"\n")
+    println!(rt)
 }
 
 // Seven slices, of which 1 to 5 were acquired, each in this time.
@@ -145,11 +104,7 @@ fn print_table(rt: &impl Print, code: u8, duration: u32) -> io::Result<()> {
     let mut file = [0u8; 348];
     put_shape(&mut file, 1, 1, 7);
     put_timing(&mut file, code, 1, 5, duration);
-    say(rt, b"slices 1 to 5, code ")?;
-    say_number(rt, code as u64)?;
-    say(rt, b", duration ")?;
-    say_bits(rt, duration)?;
-    say(rt, b"\n")?;
+    println!(rt; "slices 1 to 5, code {code}, duration {duration:08x}")?;
     print_slices(rt, &file)?;
     print_acquired(rt, &file)
 }
@@ -161,11 +116,7 @@ fn print_code(rt: &impl Print, code: u8, last: u8) -> io::Result<()>
     let mut file = [0u8; 348];
     put_shape(&mut file, 1, 1, 7);
     put_timing(&mut file, code, 1, last as i16, 0x3dcc_cccd);
-    say(rt, b"slices 1 to ")?;
-    say_number(rt, last as u64)?;
-    say(rt, b", code ")?;
-    say_number(rt, code as u64)?;
-    say(rt, b", ranks")?;
+    print!(rt; "slices 1 to {last}, code {code}, ranks")?;
     print_ranks(rt, &file, last)
 }
 
@@ -179,37 +130,29 @@ fn print_codes(rt: &impl Print, last: u8) -> io::Result<()>
 }
 
 fn print_position(rt: &impl Print, file: &[u8], i: u64, j: u64, k: u64) -> io::Result<()> {
-    say(rt, b"position")?;
-    let answer = slice_position::position_of(file, i, j, k);
-    match answer {
-        Positioned::At(p) => {
-            say(rt, b" ")?;
-            say_float(rt, p.x)?;
-            say(rt, b" ")?;
-            say_float(rt, p.y)?;
-            say(rt, b" ")?;
-            say_float(rt, p.z)?;
+    match slice_position::position_of(file, i, j, k) {
+        Ok(p) => {
+            let x = pattern(p.x);
+            let y = pattern(p.y);
+            let z = pattern(p.z);
+            println!(rt; "position {x:08x} {y:08x} {z:08x}")
         }
-        Positioned::Refused(r) => print_refusal(rt, r.number, r.place)?,
+        Err(r) => println!(rt; "position {r}"),
     }
-    say(rt, b"\n")
 }
 
 // The first row rounds differently in any other order; the others are y = j and z = k.
 fn print_positions(rt: &impl Print, sform_code: i16) -> io::Result<()> {
     let mut file = [0u8; 348];
     put_shape(&mut file, 186, 207, 60);
-    store::put_i16(&mut file, 254, Order::Little, sform_code);
+    store::put(&mut file, 254, Order::Little, sform_code);
     put_row(
         &mut file,
         280,
-        0xbf09_b16b,
-        0x4006_4993,
-        0xc07e_ebf5,
-        0xbedf_b1ad,
+        [0xbf09_b16b, 0x4006_4993, 0xc07e_ebf5, 0xbedf_b1ad],
     );
-    put_row(&mut file, 296, 0, 0x3f80_0000, 0, 0);
-    put_row(&mut file, 312, 0, 0, 0x3f80_0000, 0);
+    put_row(&mut file, 296, [0, 0x3f80_0000, 0, 0]);
+    put_row(&mut file, 312, [0, 0, 0x3f80_0000, 0]);
     print_position(rt, &file, 185, 206, 59)?;
     print_position(rt, &file, 186, 206, 59)
 }

@@ -1,5 +1,6 @@
 -- Which bit patterns are of a positive number, and the time of a rank by such a duration: it is one rounding of the exact product, it is +0 for
 -- rank 0, and where it is not finite it is the infinity above zero. Assumes nothing.
+use Rattle.std.specs.Prelude.{Some}
 use mathlib.Core.Path.{◌≡◌, refl, sym, ap, ◌∙◌, subst}
 use mathlib.Core.Bool.{Bool, true, false, cond, ◌&&◌, true≢false}
 use mathlib.Core.Logic.{◌⊎◌, inl, inr}
@@ -17,7 +18,6 @@ use lib.Ieee.Fits.{round_is}
 use lib.Ieee.Positive.{num, den, den_pos, own_value, positive, positive-finite, positive_of_value, mul_at}
 use lib.Ieee.Scale.{finite, round_same}
 use borrow.Author.Tests.{leb-false, ltb-true, ltb-false, lt-leb, ne_eqb}
-use Rattle.slices.specs.declared.Time.TheVariants.{Finite}
 use Rattle.slices.specs.Times.{product, time_by, time_of}
 
 -- ---- positive, by the fields of a pattern: its sign, the exponent's field x and the digits t
@@ -148,7 +148,7 @@ unfolding time_of
 time_rounded_once b r h p = ap time_by (rounded_once r (of_bits binary32 b) h p)
 
 -- rank 0 has the time +0
-pub time_of_first : (b : ℕ) → positive (of_bits binary32 b) ≡ true → time_of b 0 ≡ Finite (fin false 0 (pos 0))
+pub time_of_first : (b : ℕ) → positive (of_bits binary32 b) ≡ true → time_of b 0 ≡ Some (fin false 0 (pos 0))
 unfolding round
 time_of_first b p =
     let d = of_bits binary32 b in

@@ -18,6 +18,10 @@ alt_rank n o = cond (eqb (o % 2) 0) (o / 2) ((n + 1) / 2 + (o - 1) / 2)
 unfoldable pub alt2_rank : ℕ → ℕ → ℕ
 alt2_rank n o = cond (eqb (o % 2) 1) ((o - 1) / 2) (n / 2 + o / 2)
 
+-- either, by the parity of the o that come first
+abbrev pub parity_rank : ℕ → ℕ → ℕ → ℕ
+parity_rank first n o = cond (eqb first 0) (alt_rank n o) (alt2_rank n o)
+
 -- "The rank is o for SEQ", and as above for ALT and ALT2
 unfoldable pub rank_of : ℕ → ℕ → ℕ → ℕ
 rank_of code n o = cond (leb code 2) o (cond (leb code 4) (alt_rank n o) (alt2_rank n o))

@@ -1,5 +1,6 @@
 -- Any voxel before and after a swap: asked with the same indexes, and for a pair with the image file that the swap leaves. One
 -- statement for a single file and a pair, in either byte order, for every unit.
+use Rattle.std.specs.Prelude.{Ok, Err, Some, Result}
 use Prim.Native.Nat.{ℕ, ◌+◌, ◌*◌, ◌/◌, ◌≤◌}
 use mathlib.Core.Path.{◌≡◌, refl, ap, sym, ◌∙◌}
 use mathlib.Core.List.{List}
@@ -7,10 +8,8 @@ use native.Mathlib.Omega.{arith}
 use native.Mathlib.Nat.{zero-div, mul_comm}
 use lib.ListN.{length, take, drop}
 use Rattle.refusal.specs.declared.Refusal.{Refusal}
-use Rattle.refusal.specs.declared.Verdict.TheVariants.{Accepted}
-use Rattle.refusal.specs.Table.{decided}
+use Rattle.refusal.specs.Table.{decided, no_refusal}
 use Rattle.datatype.specs.declared.Format.{Format}
-use Rattle.datatype.specs.declared.Datatype.TheVariants.{Known}
 use Rattle.datatype.specs.Datatypes.{datatype_of}
 use Rattle.grid.specs.Grid.{voxel_number}
 use Rattle.header.specs.declared.Header.{Header}
@@ -22,8 +21,6 @@ use Rattle.reader.specs.Reading.{reading_of, IsAccepted}
 use Rattle.reader.proofs.File.{accepted_shape, accepted_image}
 use Rattle.units.specs.Units.{turned}
 use Rattle.voxel.specs.declared.Extent.{Extent}
-use Rattle.voxel.specs.declared.Located.{Located}
-use Rattle.voxel.specs.declared.Located.TheVariants.{At, Unlocated}
 use Rattle.voxel.specs.Voxel.{lengths_of, located_in}
 use Rattle.rules.proofs.Sizes.{Formed, shape_formed}
 use Rattle.voxel.proofs.Locating.{Found}
@@ -36,7 +33,7 @@ use Rattle.byteswap.proofs.Whole.{unit_known}
 use Rattle.byteswap.proofs.Theorems.{swap_lengths, swap_reads, swap_voxel}
 use Rattle.swap_voxels.specs.Turned.{turned_voxel}
 
-module _ (file image index : List ℕ) (a : swap_answer file image ≡ Accepted) where
+module _ (file image index : List ℕ) (a : swap_answer file image ≡ no_refusal) where
   abbrev file' : List ℕ
   file' = swapped_file file image
 
@@ -55,16 +52,16 @@ module _ (file image index : List ℕ) (a : swap_answer file image ≡ Accepted)
   -- the byte order is the one field that changes, and no place depends on it
   same_answer : located_of file' image' index ≡ located_of file image index
   unfolding located_of
-  same_answer = λ i. decided (reads i).verdict (located_in (reads i).header ((swap_lengths file image).1 i) index) Unlocated
+  same_answer = λ i. decided (reads i).verdict (located_in (reads i).header ((swap_lengths file image).1 i) index) Err
 
   -- an index that is refused
-  refused_turned : (r : Refusal) → located_of file image index ≡ Unlocated r
+  refused_turned : (r : Refusal) → located_of file image index ≡ Err r
       → voxel_of file' image' index ≡ turned_voxel unit (voxel_of file image index)
   unfolding turned
   refused_turned r d = rw (refused_empty file' image' index r (same_answer ∙ d), refused_empty file image index r d, zero-div unit)
 
   -- an index that has a place
-  module _ (e : Extent) (d : located_of file image index ≡ At e) where
+  module _ (e : Extent) (d : located_of file image index ≡ Ok e) where
     accepted : IsAccepted file
     accepted = (located_both file image index e d).0
 
@@ -88,7 +85,7 @@ module _ (file image index : List ℕ) (a : swap_answer file image ≡ Accepted)
     unfolding shape_in
     same_kind = ap (λ (s : Shape). s.kind) (accepted_shape file accepted)
 
-    known : datatype_of (shape_of file).datatype ≡ Known format
+    known : datatype_of (shape_of file).datatype ≡ Some format
     known = ap (λ (s : Shape). datatype_of s.datatype) (sym (accepted_shape file accepted)) ∙ formed.known
 
     same_unit : unit ≡ format.unit
@@ -128,10 +125,10 @@ module _ (file image index : List ℕ) (a : swap_answer file image ≡ Accepted)
         ∙ swap_voxel file image a format known before inside
         ∙ sym (λ i. turned (same_unit i) (bytes i / same_unit i) (voxel_is i))
 
-  voxel_turned : (l : Located) → located_of file image index ≡ l
+  voxel_turned : (l : Result Extent Refusal) → located_of file image index ≡ l
       → voxel_of file' image' index ≡ turned_voxel unit (voxel_of file image index)
-  voxel_turned (At e) d = located_turned e d
-  voxel_turned (Unlocated r) d = refused_turned r d
+  voxel_turned (Ok e) d = located_turned e d
+  voxel_turned (Err r) d = refused_turned r d
 
 -- a swap that is not refused, and any voxel before and after it
 pub record VoxelTurned (file image index : List ℕ) : Type 0 where
@@ -141,7 +138,7 @@ pub record VoxelTurned (file image index : List ℕ) : Type 0 where
   pub bytes : voxel_of (swapped_file file image) (swapped_image file image) index
       ≡ turned_voxel (unit_in (order_of file) file) (voxel_of file image index)
 
-pub swap_voxels : (file image index : List ℕ) → swap_answer file image ≡ Accepted → VoxelTurned file image index
+pub swap_voxels : (file image index : List ℕ) → swap_answer file image ≡ no_refusal → VoxelTurned file image index
 swap_voxels file image index a =
     record {
       answer = same_answer file image index a;

@@ -1,4 +1,7 @@
 -- What holds where timing is stated, and one law for each answer: the tests that lead to it.
+use Rattle.refusal.specs.declared.Rule.TheVariants.{IndexOutside}
+use Rattle.std.specs.Prelude.{Ok, Err, Some, None, Result}
+use Rattle.timing.specs.declared.Slice.TheVariants.{Unstated, Padding, Timed}
 use mathlib.Core.Path.{◌≡◌, refl, sym}
 use mathlib.Core.Bool.{Bool, true, false, not, cond, ◌&&◌, ◌||◌, and-eq-true_iff, false≢true}
 use Prim.Native.Nat.{ℕ, ◌≤◌, ◌<◌}
@@ -13,10 +16,10 @@ use Rattle.refusal.specs.Table.{refusal}
 use Rattle.number.specs.Natural.{natural_of}
 use Rattle.grid.specs.Axes.{dim_at}
 use Rattle.rules.specs.Rules.{axis_count}
-use Rattle.slices.specs.declared.Time.TheVariants.{Finite, Infinite}
 use Rattle.slices.specs.Times.{time_of}
+use Rattle.refusal.specs.declared.Refusal.{Refusal}
+use Rattle.timing.specs.declared.Slice.{Slice}
 use Rattle.timing.specs.declared.Acquisition.{Acquisition}
-use Rattle.timing.specs.declared.Slice.TheVariants.{Refused, Unstated, Padding, Timed}
 use Rattle.timing.specs.Slices.{slice_axis, acquires, is_stated, slice_count, first_slice, last_slice, rank_at, time_at}
 use Rattle.timing.specs.Slices.{first_of, slice_by, timed_by}
 
@@ -68,26 +71,27 @@ acquired_within s first last e = go (ltb s first) refl e
 
 -- the answers
 module _ (a : Acquisition) (s : ℕ) where
-  pub slice_unstated : is_stated a ≡ false → Unstated ≡ slice_by a s
+  pub slice_unstated : is_stated a ≡ false → (Ok Unstated) ≡ slice_by a s
   unfolding slice_by first_of
   slice_unstated e = rw e
 
   module _ (stated : is_stated a ≡ true) where
-    pub slice_outside : slice_count a ≤ s → Refused (refusal 17 0) ≡ slice_by a s
+    pub slice_outside : slice_count a ≤ s → Err (refusal IndexOutside 0) ≡ slice_by a s
     unfolding slice_by first_of
     slice_outside o = simp (stated, le-leb (slice_count a) s o)
 
     module _ (inside : s < slice_count a) where
-      pub slice_padding : (ltb s (first_slice a) || ltb (last_slice a) s) ≡ true → Padding ≡ slice_by a s
+      pub slice_padding : (ltb s (first_slice a) || ltb (last_slice a) s) ≡ true → (Ok Padding) ≡ slice_by a s
       unfolding slice_by first_of
       slice_padding p = simp (stated, lt-leb (slice_count a) s inside, p)
 
       pub slice_acquired : (ltb s (first_slice a) || ltb (last_slice a) s) ≡ false
-          → timed_by (rank_at a s) (time_of a.slice_duration (rank_at a s)) ≡ slice_by a s
+          → Ok (timed_by (rank_at a s) (time_of a.slice_duration (rank_at a s))) ≡ slice_by a s
       unfolding slice_by first_of time_of
       slice_acquired p = simp (stated, lt-leb (slice_count a) s inside, p) (go (finite (time_at a s)))
         where
           go : (t : Bool)
-              → timed_by (rank_at a s) (cond t (Finite (time_at a s)) Infinite) ≡ cond (not t) Unstated (Timed (rank_at a s) (time_at a s))
+              → ◌≡◌ {A = Result Slice Refusal} (Ok (timed_by (rank_at a s) (cond t (Some (time_at a s)) None)))
+              (cond (not t) (Ok Unstated) (Ok (Timed (rank_at a s) (time_at a s))))
           go true = refl
           go false = refl

@@ -1,6 +1,9 @@
 -- Slice timing: 01-scope.md, "Slices and positions", first paragraph. Any fields have an answer, also those of a record that reading
 -- would refuse.
-use Rattle.std.specs.Prelude.{ℕ, ◌/◌, ◌%◌, Bool, cond, not, ◌&&◌, ◌||◌, List, [], ◌∷◌, leb, ltb, ℤ, pos, Float}
+use Rattle.refusal.specs.declared.Rule.TheVariants.{IndexOutside}
+use Rattle.timing.specs.declared.Slice.TheVariants.{Unstated, Padding, Timed}
+use Rattle.refusal.specs.declared.Refusal.{Refusal}
+use Rattle.std.specs.Prelude.{ℕ, ◌/◌, ◌%◌, Bool, cond, not, ◌&&◌, ◌||◌, List, [], ◌∷◌, leb, ltb, ℤ, pos, Float, Ok, Err, Some, None, Result, Option}
 use Rattle.std.specs.Int.Signed.{le_z, lt_z}
 use Rattle.std.specs.Float.{binary32}
 use Rattle.std.specs.Float.Ieee.{of_bits}
@@ -11,13 +14,10 @@ use Rattle.number.specs.Natural.{natural_of}
 use Rattle.grid.specs.Axes.{dim_at}
 use Rattle.header.specs.declared.Header.{Header}
 use Rattle.rules.specs.Rules.{axis_count}
-use Rattle.slices.specs.declared.Time.{Time}
-use Rattle.slices.specs.declared.Time.TheVariants.{Finite, Infinite}
 use Rattle.slices.specs.Ranks.{rank_in}
 use Rattle.slices.specs.Times.{product}
 use Rattle.timing.specs.declared.Acquisition.{Acquisition}
 use Rattle.timing.specs.declared.Slice.{Slice}
-use Rattle.timing.specs.declared.Slice.TheVariants.{Refused, Unstated, Padding, Timed}
 
 -- "dim_info holds slice_dim in bits 4 and 5"
 abbrev pub slice_dim : ℕ → ℕ
@@ -59,13 +59,13 @@ time_at a s = product (rank_at a s) (of_bits binary32 a.slice_duration)
 -- a case of the answer: the test by which it is given, and what is then answered
 pub record Case : Type 0 where
   pub test : Bool
-  pub answer : Slice
+  pub answer : Result Slice Refusal
 
-abbrev pub case : Bool → Slice → Case
+abbrev pub case : Bool → Result Slice Refusal → Case
 case test answer = record { test = test; answer = answer }
 
 -- the first case whose test holds, and the last answer where none does
-unfoldable pub first_of : List Case → Slice → Slice
+unfoldable pub first_of : List Case → Result Slice Refusal → Result Slice Refusal
 first_of [] last = last
 first_of (c ∷ cs) last = cond c.test c.answer (first_of cs last)
 
@@ -73,15 +73,15 @@ first_of (c ∷ cs) last = cond c.test c.answer (first_of cs last)
 -- product is infinite is unstated." A product that is not finite is the infinity (`product_infinite` of the crate slices).
 abbrev pub cases_of : Acquisition → ℕ → List Case
 cases_of a s =
-    case (not (is_stated a)) Unstated
-    ∷ case (leb (slice_count a) s) (Refused (refusal 17 0))
-    ∷ case (ltb s (first_slice a) || ltb (last_slice a) s) Padding
-    ∷ case (not (finite (time_at a s))) Unstated
+    case (not (is_stated a)) (Ok Unstated)
+    ∷ case (leb (slice_count a) s) (Err (refusal IndexOutside 0))
+    ∷ case (ltb s (first_slice a) || ltb (last_slice a) s) (Ok Padding)
+    ∷ case (not (finite (time_at a s))) (Ok Unstated)
     ∷ []
 
 -- "Each slice answer is unstated, padding, or a rank with its binary32 time"
-unfoldable pub slice_by : Acquisition → ℕ → Slice
-slice_by a s = first_of (cases_of a s) (Timed (rank_at a s) (time_at a s))
+unfoldable pub slice_by : Acquisition → ℕ → Result Slice Refusal
+slice_by a s = first_of (cases_of a s) (Ok (Timed (rank_at a s) (time_at a s)))
 
 -- the same by a record
 abbrev pub acquisition_of : Header → Acquisition
@@ -95,10 +95,10 @@ acquisition_of h =
       slice_duration = h.display.slice_duration;
     }
 
-abbrev pub slice_in : Header → ℕ → Slice
+abbrev pub slice_in : Header → ℕ → Result Slice Refusal
 slice_in h s = slice_by (acquisition_of h) s
 
 -- the last two answers, by what the crate slices answers of the time
-abbrev pub timed_by : ℕ → Time → Slice
-timed_by rank (Finite t) = Timed rank t
-timed_by rank Infinite = Unstated
+abbrev pub timed_by : ℕ → Option Float → Slice
+timed_by rank (Some t) = Timed rank t
+timed_by rank None = Unstated

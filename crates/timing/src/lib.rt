@@ -3,16 +3,10 @@
 #![tactic(auto)]
 
 ghost use Rattle.std.specs.Prelude.{◌≡◌, true, ◌≤◌, ◌<◌};
-ghost use Rattle.std.specs.Float.{binary32};
-ghost use Rattle.std.specs.Float.Ieee.{of_bits};
-ghost use Rattle.std.specs.Float.Ieee.Positive.{positive};
-ghost use Rattle.slices.specs.Ranks.{rank_in};
-ghost use Rattle.slices.specs.Times.{time_of};
-ghost use Rattle.timing.specs.Slices.{slice_dim, acquires, is_stated, slice_count, first_slice, last_slice, slice_by, acquisition_of, slice_in, timed_by};
+ghost use Rattle.timing.specs.Slices.{slice_dim, acquires, is_stated, slice_count, first_slice, last_slice, slice_by, acquisition_of, slice_in};
 
 use header::Header;
-use refusal::Refusal;
-use slices::Time;
+use refusal::{Refusal, Rule};
 
 // The fields that say how the slices were acquired.
 #[derive(Clone, Copy)]
@@ -25,10 +19,9 @@ pub struct Acquisition {
     pub slice_duration: u32,
 }
 
-// What is answered of a slice: a refusal, that its timing is unstated, that it is padding, or its rank and its time.
+// What is answered of a slice that is not refused: that its timing is unstated, that it is padding, or its rank and its time.
 #[derive(Clone, Copy)]
 pub enum Slice {
-    Refused(Refusal),
     Unstated,
     Padding,
     Timed(u16, f32),
@@ -49,24 +42,22 @@ fn acquires_in(start: i16, end: i16, length: i16) -> bool
 }
 
 // Whether timing is stated.
+#[tactic(auto, unfolding(crate::specs::Slices::is_stated))]
 pub fn is_stated(a: Acquisition) -> bool
     ensures { result ≡ is_stated a }
 {
-    let dim = a.dim;
     let d = slice_dim(a.dim_info);
-    let code = a.slice_code;
-    let axis = (1 <= d) & (d <= 3) & (d <= rules::axis_count(&dim));
+    let axis = (1 <= d) & (d <= 3) & (d <= rules::axis_count(&a.dim));
     axis & slices::is_positive(a.slice_duration)
-        & ((1 <= code) & (code <= 6))
-        & acquires_in(a.slice_start, a.slice_end, dim[d])
+        & ((1 <= a.slice_code) & (a.slice_code <= 6))
+        & acquires_in(a.slice_start, a.slice_end, a.dim[d])
 }
 
 // How many slices their axis has, where timing is stated.
 pub fn slice_count(a: Acquisition) -> u64
     ensures { (result ≡ slice_count a) × (result ≤ 32767) }
 {
-    let dim = a.dim;
-    grid::axis_length(&dim, slice_dim(a.dim_info))
+    grid::axis_length(&a.dim, slice_dim(a.dim_info))
 }
 
 // The first slice that was acquired, where timing is stated.
@@ -83,52 +74,34 @@ pub fn last_slice(a: Acquisition) -> u64
     number::natural(a.slice_end)
 }
 
-// The answer for an acquired slice.
-fn timed(code: u8, start: u16, end: u16, duration: u32, s: u16) -> Slice
-    requires { (start ≤ s) × (s ≤ end) × (end ≤ 32766) × (positive (of_bits binary32 duration) ≡ true) }
-    ensures { result ≡ timed_by (rank_in code start end s) (time_of duration (rank_in code start end s)) }
-{
-    let rank = slices::rank(code, start, end, s);
-    let time = slices::time_of(duration, rank);
-    match time {
-        Time::Finite(t) => Slice::Timed(rank, t),
-        Time::Infinite => Slice::Unstated,
-    }
-}
-
 // The answer where timing is stated.
-fn slice_stated(a: Acquisition, s: u64) -> Slice
+#[tactic(auto, using(crate::proofs::Answers::stated_has, crate::proofs::Answers::slice_outside, crate::proofs::Answers::slice_padding))]
+fn slice_stated(a: Acquisition, s: u64) -> Result<Slice, Refusal>
     requires { is_stated a ≡ true }
     ensures { result ≡ slice_by a s }
 {
     if slice_count(a) <= s {
-        return Slice::Refused(Refusal {
-            number: 17,
-            place: 0,
-        });
+        return Err(Rule::IndexOutside.at(0));
     }
     let start = first_slice(a);
     let end = last_slice(a);
     if (s < start) | (end < s) {
-        return Slice::Padding;
+        return Ok(Slice::Padding);
     }
-    timed(
-        a.slice_code,
-        start as u16,
-        end as u16,
-        a.slice_duration,
-        s as u16,
-    )
+    let rank = slices::rank(a.slice_code, start as u16, end as u16, s as u16);
+    let time = slices::time_of(a.slice_duration, rank);
+    Ok(time.map_or(Slice::Unstated, |time| Slice::Timed(rank, time)))
 }
 
 // The slice s by the fields that say how the slices were acquired. Any fields may be asked.
-pub fn slice_by(a: Acquisition, s: u64) -> Slice
+#[tactic(auto, using(crate::proofs::Answers::slice_unstated))]
+pub fn slice_by(a: Acquisition, s: u64) -> Result<Slice, Refusal>
     ensures { result ≡ slice_by a s }
 {
     if is_stated(a) {
         slice_stated(a, s)
     } else {
-        Slice::Unstated
+        Ok(Slice::Unstated)
     }
 }
 
@@ -137,22 +110,18 @@ pub fn acquisition_of(header: Header) -> Acquisition
     ensures { result ≡ acquisition_of header }
 {
     let dim = header.dim;
-    let key = header.key;
-    let intent = header.intent;
-    let scale = header.scale;
-    let display = header.display;
     Acquisition {
         dim,
-        dim_info: key.dim_info,
-        slice_start: intent.slice_start,
-        slice_end: scale.slice_end,
-        slice_code: scale.slice_code,
-        slice_duration: display.slice_duration,
+        dim_info: header.key.dim_info,
+        slice_start: header.intent.slice_start,
+        slice_end: header.scale.slice_end,
+        slice_code: header.scale.slice_code,
+        slice_duration: header.display.slice_duration,
     }
 }
 
 // The slice s by a record. Any record may be asked.
-pub fn slice_in(header: Header, s: u64) -> Slice
+pub fn slice_in(header: Header, s: u64) -> Result<Slice, Refusal>
     ensures { result ≡ slice_in header s }
 {
     slice_by(acquisition_of(header), s)

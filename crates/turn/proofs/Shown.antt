@@ -1,4 +1,6 @@
 -- A file whose outline is shown: its record without the extensions and sizes does as well as the whole one, and its image can be turned.
+use Rattle.std.specs.Prelude.{Ok, Err, Result}
+use Rattle.turn.specs.declared.Lengths.{Lengths}
 use Prim.Native.Nat.{ℕ, ◌+◌, ◌≤◌}
 use mathlib.Core.Path.{◌≡◌, refl, sym, ap, ◌∙◌}
 use mathlib.Core.Bool.{true, false}
@@ -7,9 +9,7 @@ use borrow.Author.Tests.{ltb-false, not-false}
 use lib.Dec.{ltb}
 use lib.ListN.{length}
 use Rattle.refusal.specs.declared.Refusal.{Refusal}
-use Rattle.refusal.specs.declared.Verdict.{Verdict}
-use Rattle.refusal.specs.declared.Verdict.TheVariants.{Accepted, Refused as Breaks}
-use Rattle.refusal.specs.Table.{verdict}
+use Rattle.refusal.specs.Table.{verdict, Verdict, no_refusal}
 use Rattle.refusal.proofs.Rows.{Clear, none, one, accepted_clear}
 use Rattle.buffer.specs.Put.{put}
 use Rattle.datatype.proofs.Sound.{known_sound}
@@ -28,7 +28,6 @@ use Rattle.layout.specs.declared.Layout.{Layout}
 use Rattle.reader.specs.Reading.{reading_of}
 use Rattle.reader.proofs.File.{accepted_shape, accepted_record, record_whole}
 use Rattle.outline.specs.declared.Outline.{Outline}
-use Rattle.outline.specs.declared.Outlined.TheVariants.{Shown, Hidden}
 use Rattle.outline.specs.Outline.{outline_of}
 use Rattle.outline.proofs.Outlines.{hidden_reading, shows, shown_accepted, shown_header, shown_long}
 use Rattle.rules.proofs.Sizes.{shape_formed, shape_measured}
@@ -36,8 +35,6 @@ use Rattle.reorient.specs.declared.Turn.{Turn}
 use Rattle.reorient.specs.Reorient.{is_permutation}
 use Rattle.reorient_header.specs.After.{not_finite, header_after, sform_after}
 use Rattle.reorient_file.specs.Files.{image_in, image_longer, holder_after, with_header, own_after, image_by, file_after, image_after, Sized, Room}
-use Rattle.turn.specs.declared.Turned.{Turned}
-use Rattle.turn.specs.declared.Turned.TheVariants.{Made, Refused}
 use Rattle.turn.specs.Turned.{turn_rows, turn_verdict, image_length, turn_answer, turned_out, turned_out_image}
 
 -- ---- what a turn that none of the rows refuses is like
@@ -62,7 +59,7 @@ clear_allowed h t file image out out_image (one r16 (one r29 (one r30 (one r23 (
       fits_image = b.1;
     }
 
-pub allowed : (h : Header) (t : Turn) (file image out out_image : ℕ) → verdict (turn_rows h t file image out out_image) ≡ Accepted
+pub allowed : (h : Header) (t : Turn) (file image out out_image : ℕ) → verdict (turn_rows h t file image out out_image) ≡ no_refusal
     → Allowed h t file image out out_image
 allowed h t file image out out_image e = clear_allowed h t file image out out_image (accepted_clear (turn_rows h t file image out out_image) e)
 
@@ -108,7 +105,7 @@ module _ (t : Turn) (h : Header) (count : ℕ) (spans : List Span) where
   same_image image = same_by h.kind image
 
 -- ---- the record of a file whose outline is shown
-module _ (s : List ℕ) (o : Outline) (e : outline_of 0 s ≡ Shown o) where
+module _ (s : List ℕ) (o : Outline) (e : outline_of 0 s ≡ Ok o) where
   abbrev read : Header
   read = (reading_of s).header
 
@@ -154,20 +151,20 @@ module _ (s : List ℕ) (o : Outline) (e : outline_of 0 s ≡ Shown o) where
         ∙ same_rows t read 0 (spans_of []) (length s) (length image) (length out) (length out_image))))
 
     -- an answer and two contents, as the call promises them
-    abbrev pub Turns : Turned → List ℕ → List ℕ → Type 0
+    abbrev pub Turns : Result Lengths Refusal → List ℕ → List ℕ → Type 0
     Turns answer left leftImage =
         (answer ≡ turn_answer s image t (length out) (length out_image))
         × (left ≡ turned_out s image t out out_image)
         × (leftImage ≡ turned_out_image s image t out out_image)
 
-    pub turns_refused : (r : Refusal) → judged ≡ Breaks r → Turns (Refused r) out out_image
+    pub turns_refused : (r : Refusal) → judged ≡ Err r → Turns (Err r) out out_image
     unfolding turn_answer turned_out turned_out_image
     turns_refused r j = let v = verdict_is ∙ j in (rw v, rw v, rw v)
 
     pub turns_made : (n : ℕ) → n ≡ image_length o.layout.kind (length image) → (left leftImage : List ℕ)
-        → judged ≡ Accepted → left ≡ put out 0 (file_after t parsed s)
+        → judged ≡ no_refusal → left ≡ put out 0 (file_after t parsed s)
         → leftImage ≡ put out_image 0 (image_after t parsed image)
-        → Turns (Made (record { file = length s; image = n })) left leftImage
+        → Turns (Ok (record { file = length s; image = n })) left leftImage
     unfolding turn_answer turned_out turned_out_image
     turns_made n en left leftImage j el em =
         let v = verdict_is ∙ j in (
@@ -178,8 +175,8 @@ module _ (s : List ℕ) (o : Outline) (e : outline_of 0 s ≡ Shown o) where
         )
 
 -- a file that reading refuses
-pub turns_hidden : (s image : List ℕ) (t : Turn) (out out_image : List ℕ) (r : Refusal) → outline_of 0 s ≡ Hidden r
-    → (Refused r ≡ turn_answer s image t (length out) (length out_image))
+pub turns_hidden : (s image : List ℕ) (t : Turn) (out out_image : List ℕ) (r : Refusal) → outline_of 0 s ≡ Err r
+    → (Err r ≡ turn_answer s image t (length out) (length out_image))
     × (out ≡ turned_out s image t out out_image)
     × (out_image ≡ turned_out_image s image t out out_image)
 unfolding turn_verdict turn_answer turned_out turned_out_image

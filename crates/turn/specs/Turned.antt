@@ -1,8 +1,9 @@
 -- Turning a volume: what the call answers, and what it leaves in the two buffers (02-change-requests.md, P10). The new files themselves
 -- are those of the crate reorient_file.
-use Rattle.std.specs.Prelude.{ℕ, not, ◌||◌, List, [], ◌∷◌, length, ltb}
-use Rattle.refusal.specs.declared.Verdict.{Verdict}
-use Rattle.refusal.specs.Table.{Row, row, verdict, decided, then}
+use Rattle.refusal.specs.declared.Rule.TheVariants.{ImageCut, ShortBuffer, NoPosition, FewerThanThreeAxes, NoPermutation}
+use Rattle.refusal.specs.declared.Refusal.{Refusal}
+use Rattle.std.specs.Prelude.{ℕ, not, ◌||◌, List, [], ◌∷◌, length, ltb, Ok, Err, Result}
+use Rattle.refusal.specs.Table.{Row, row, verdict, decided, then, Verdict}
 use Rattle.buffer.specs.Put.{put}
 use Rattle.header.specs.declared.Header.{Header}
 use Rattle.header.specs.declared.Kind.{Kind}
@@ -14,18 +15,16 @@ use Rattle.reorient.specs.Reorient.{is_permutation}
 use Rattle.reorient_header.specs.After.{not_finite}
 use Rattle.reorient_file.specs.Files.{image_in, image_longer, file_after, image_after}
 use Rattle.turn.specs.declared.Lengths.{Lengths}
-use Rattle.turn.specs.declared.Turned.{Turned}
-use Rattle.turn.specs.declared.Turned.TheVariants.{Made, Refused}
 
 -- "Refusals, after reading and 16: 29 fewer than three dims, 30 not a permutation, 23 where sform_code is above 0 and a new srow number
 -- isn't finite, then 22 for either buffer": by the record of an accepted file, and the lengths of the file, the image file and the buffers
 abbrev pub turn_rows : Header → Turn → ℕ → ℕ → ℕ → ℕ → List Row
 turn_rows h t file image out out_image =
-    row 16 (image_cut h.kind image (image_in h)) 0
-    ∷ row 29 (ltb (axis_count h.dim) 3) 0
-    ∷ row 30 (not (is_permutation t)) 0
-    ∷ row 23 (not_finite t h) 0
-    ∷ row 22 (ltb out file || image_longer h.kind image out_image) 0
+    row ImageCut (image_cut h.kind image (image_in h)) 0
+    ∷ row FewerThanThreeAxes (ltb (axis_count h.dim) 3) 0
+    ∷ row NoPermutation (not (is_permutation t)) 0
+    ∷ row NoPosition (not_finite t h) 0
+    ∷ row ShortBuffer (ltb out file || image_longer h.kind image out_image) 0
     ∷ []
 
 unfoldable pub turn_verdict : List ℕ → List ℕ → Turn → ℕ → ℕ → Verdict
@@ -40,10 +39,10 @@ image_length Pair n = n
 abbrev pub lengths_after : Kind → ℕ → ℕ → Lengths
 lengths_after kind file image = record { file = file; image = image_length kind image }
 
-unfoldable pub turn_answer : List ℕ → List ℕ → Turn → ℕ → ℕ → Turned
+unfoldable pub turn_answer : List ℕ → List ℕ → Turn → ℕ → ℕ → Result Lengths Refusal
 turn_answer file image t out out_image =
     decided (turn_verdict file image t out out_image)
-    (Made (lengths_after (reading_of file).header.kind (length file) (length image))) Refused
+    (Ok (lengths_after (reading_of file).header.kind (length file) (length image))) Err
 
 -- the buffers afterwards: "Bytes past the new files stay"; a refused turn changes neither
 unfoldable pub turned_out : List ℕ → List ℕ → Turn → List ℕ → List ℕ → List ℕ

@@ -2,16 +2,17 @@
 // reversed, and a pair's new image file in a third.
 #![tactic(auto)]
 
-ghost use Rattle.std.specs.Prelude.{◌≡◌, length};
+ghost use Rattle.std.specs.Prelude.{◌≡◌, length, Ok, Err};
 ghost use Rattle.refusal.specs.Table.{verdict};
 ghost use Rattle.outline.specs.Outline.{outline_of};
 ghost use Rattle.reorient_file.specs.Files.{image_in, image_longer};
 ghost use Rattle.turn.specs.Turned.{turn_rows, image_length, turn_answer, turned_out, turned_out_image};
 
 use header::{Header, Kind};
-use outline::{Outline, Outlined};
-use refusal::{Refusal, Verdict};
+use outline::Outline;
+use refusal::{Refusal, Rule};
 use reorient::Turn;
+use reorient_file::Judged;
 use rules::Image;
 
 // The lengths of the new files; that of the image file is 0 for a single file.
@@ -19,18 +20,6 @@ use rules::Image;
 pub struct Lengths {
     pub file: usize,
     pub image: usize,
-}
-
-#[derive(Clone, Copy)]
-pub enum Turned {
-    Made(Lengths),
-    Refused(Refusal),
-}
-
-fn refused(number: u64) -> Verdict
-    ensures { result ≡ Verdict.Refused (record { number = number; place = 0 }) }
-{
-    Verdict::Refused(Refusal { number, place: 0 })
 }
 
 // Whether a pair's image file is longer than the third buffer.
@@ -61,31 +50,31 @@ fn judge(
     image: usize,
     out: usize,
     out_image: usize,
-) -> Verdict
+) -> Result<(), Refusal>
     requires { place ≡ image_in header }
     ensures { result ≡ verdict (turn_rows header t file image out out_image) }
 {
     let kind = header.kind;
     if bounds::image_cut(kind, image, place) {
-        return refused(16);
+        return Err(Rule::ImageCut.at(0));
     }
     let dim = header.dim;
     if rules::axis_count(&dim) < 3 {
-        return refused(29);
+        return Err(Rule::FewerThanThreeAxes.at(0));
     }
     if !reorient::is_permutation(t) {
-        return refused(30);
+        return Err(Rule::NoPermutation.at(0));
     }
     if reorient_header::not_finite(header, t) {
-        return refused(23);
+        return Err(Rule::NoPosition.at(0));
     }
     if out < file {
-        return refused(22);
+        return Err(Rule::ShortBuffer.at(0));
     }
     if is_longer(kind, image, out_image) {
-        return refused(22);
+        return Err(Rule::ShortBuffer.at(0));
     }
-    Verdict::Accepted
+    Ok(())
 }
 
 // Turns an accepted file. Its record is read without the extensions, which are copied, and without the sizes: nothing is asked of either.
@@ -96,18 +85,16 @@ fn turn_shown(
     t: Turn,
     out: &mut [u8],
     out_image: &mut [u8],
-) -> Turned
-    requires { outline_of 0 file.now ≡ Outlined.Shown outline }
+) -> Result<Lengths, Refusal>
+    requires { outline_of 0 file.now ≡ Ok outline }
     ensures { (result ≡ turn_answer file.now image.now t (length out.old) (length out_image.old))
         × (out.new ≡ turned_out file.now image.now t out.old out_image.old)
         × (out_image.new ≡ turned_out_image file.now image.now t out.old out_image.old) }
 {
     let layout = outline.layout;
-    let order = layout.order;
-    let kind = layout.kind;
     let place = layout.image;
-    let header = header::parse(file, order, kind, 0, listing::no_spans());
-    let judged = judge(
+    let header = header::parse(file, layout.order, layout.kind, 0, listing::no_spans());
+    judge(
         header,
         place,
         t,
@@ -115,29 +102,32 @@ fn turn_shown(
         image.len(),
         out.len(),
         out_image.len(),
-    );
-    match judged {
-        Verdict::Refused(r) => Turned::Refused(r),
-        Verdict::Accepted => {
-            reorient_file::put_files(out, out_image, file, image, header, place, t);
-            Turned::Made(Lengths {
-                file: file.len(),
-                image: image_length(kind, image.len()),
-            })
-        }
-    }
+    )?;
+    let judged = Judged {
+        header,
+        place,
+        turn: t,
+    };
+    reorient_file::put_files(out, out_image, file, image, judged);
+    Ok(Lengths {
+        file: file.len(),
+        image: image_length(layout.kind, image.len()),
+    })
 }
 
 // Turns a file, and a pair's image file, into the fronts of two lent buffers. A refused turn changes neither; for a single file
 // the third buffer is neither asked for nor changed.
-pub fn turn(file: &[u8], image: &[u8], t: Turn, out: &mut [u8], out_image: &mut [u8]) -> Turned
+pub fn turn(
+    file: &[u8],
+    image: &[u8],
+    t: Turn,
+    out: &mut [u8],
+    out_image: &mut [u8],
+) -> Result<Lengths, Refusal>
     ensures { (result ≡ turn_answer file.now image.now t (length out.old) (length out_image.old))
         × (out.new ≡ turned_out file.now image.now t out.old out_image.old)
         × (out_image.new ≡ turned_out_image file.now image.now t out.old out_image.old) }
 {
-    let outlined = outline::outline_of(file, 0);
-    match outlined {
-        Outlined::Hidden(r) => Turned::Refused(r),
-        Outlined::Shown(o) => turn_shown(file, image, o, t, out, out_image),
-    }
+    let outline = outline::outline_of(file, 0)?;
+    turn_shown(file, image, outline, t, out, out_image)
 }

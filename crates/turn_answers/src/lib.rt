@@ -4,8 +4,9 @@
 ghost use Rattle.std.specs.Prelude.{◌≡◌};
 ghost use Rattle.turn_answers.specs.Answers.{turn_of, turned_answer};
 
+use refusal::Refusal;
 use reorient::Turn;
-use turn::Turned;
+use turn::Lengths;
 
 // `vestumbral_turned` of the C header.
 #[repr(C)]
@@ -39,21 +40,23 @@ pub fn turn_of(
 }
 
 // The answer of `turn`.
-pub fn turned_answer(turned: Turned) -> TurnedAnswer
-    ensures { result ≡ turned_answer turned }
-{
-    match turned {
-        Turned::Made(n) => TurnedAnswer {
-            refusal: 0,
-            place: 0,
-            length: n.file as u64,
-            image_length: n.image as u64,
-        },
-        Turned::Refused(r) => TurnedAnswer {
-            refusal: r.number,
-            place: r.place as u64,
-            length: 0,
-            image_length: 0,
-        },
+impl From<Result<Lengths, Refusal>> for TurnedAnswer {
+    ghost from_gives = { λ turned a. a ≡ turned_answer turned };
+
+    fn from(turned: Result<Lengths, Refusal>) -> TurnedAnswer {
+        match turned {
+            Ok(n) => TurnedAnswer {
+                refusal: 0,
+                place: 0,
+                length: n.file as u64,
+                image_length: n.image as u64,
+            },
+            Err(r) => TurnedAnswer {
+                refusal: r.number(),
+                place: r.place as u64,
+                length: 0,
+                image_length: 0,
+            },
+        }
     }
 }

@@ -1,13 +1,13 @@
 -- A turn that was made: the file was accepted, none of the call's own refusals held, and the two new files are those that the promise
 -- cites.
+use Rattle.std.specs.Prelude.{Ok, Err, Result}
 use Prim.Native.Nat.{ℕ, ◌+◌, ◌≤◌}
 use mathlib.Core.Path.{◌≡◌, refl, sym, ap, subst, ◌∙◌}
 use mathlib.Core.List.{List, ◌++◌}
 use native.Mathlib.Omega.{arith}
 use lib.ListN.{length, take, drop}
 use Rattle.refusal.specs.declared.Refusal.{Refusal}
-use Rattle.refusal.specs.declared.Verdict.TheVariants.{Accepted}
-use Rattle.refusal.specs.Table.{verdict}
+use Rattle.refusal.specs.Table.{verdict, no_refusal}
 use Rattle.refusal.proofs.Rows.{refused_never, decided_accepted}
 use Rattle.buffer.specs.Put.{put}
 use Rattle.buffer.proofs.Laws.{take-drop-put, drop-put_at}
@@ -29,28 +29,27 @@ use Rattle.reorient_header.specs.After.{header_after}
 use Rattle.reorient_file.specs.Files.{image_in, holder_after, with_header, own_after, image_by, file_after, image_after}
 use Rattle.reorient_file.proofs.Made.{length-holder, behind_header}
 use Rattle.turn.specs.declared.Lengths.{Lengths}
-use Rattle.turn.specs.declared.Turned.TheVariants.{Made, Refused}
 use Rattle.turn.specs.Turned.{turn_rows, image_length, turn_verdict, lengths_after, turn_answer, turned_out, turned_out_image}
 use Rattle.turn.proofs.Shown.{Allowed, allowed, record_sized}
 use Rattle.turn_laws.specs.Turns.{Turns}
 use Rattle.turn_laws.proofs.Reading.{new_length, new_reads}
 
-made_never : {r : Refusal} {n : Lengths} → Refused r ≡ Made n → ⊥
+made_never : {r : Refusal} {n : Lengths} → ◌≡◌ {A = Result Lengths Refusal} (Err r) (Ok n) → ⊥
 made_never e = let z : ◌≡◌ {A = ℕ} 0 1 = cc in omega arith
 
-made_same : (m n : Lengths) → Made m ≡ Made n → m ≡ n
+made_same : (m n : Lengths) → ◌≡◌ {A = Result Lengths Refusal} (Ok m) (Ok n) → m ≡ n
 made_same m n e = cc
 
 module _ {file image : List ℕ} {t : Turn} {newFile newImage : List ℕ} (w : Turns file image t newFile newImage) where
   abbrev header : Header
   header = (reading_of file).header
 
-  answered : (turn_verdict file image t (length w.out) (length w.out_image) ≡ Accepted)
-      × (Made (lengths_after header.kind (length file) (length image)) ≡ Made w.lengths)
+  answered : (turn_verdict file image t (length w.out) (length w.out_image) ≡ no_refusal)
+      × ◌≡◌ {A = Result Lengths Refusal} (Ok (lengths_after header.kind (length file) (length image))) (Ok w.lengths)
   unfolding turn_answer
   answered = decided_accepted (turn_verdict file image t (length w.out) (length w.out_image)) (λ r. made_never) w.made
 
-  both : IsAccepted file × (verdict (turn_rows header t (length file) (length image) (length w.out) (length w.out_image)) ≡ Accepted)
+  both : IsAccepted file × (verdict (turn_rows header t (length file) (length image) (length w.out) (length w.out_image)) ≡ no_refusal)
   unfolding turn_verdict
   both = decided_accepted (reading_of file).verdict (λ r. refused_never) answered.0
 
@@ -101,7 +100,7 @@ module _ {file image : List ℕ} {t : Turn} {newFile newImage : List ℕ} (w : T
 
   -- "the turned file is accepted": its record is the old one after the turn
   pub new_record : Writable header
-      → reading_of newFile ≡ record { verdict = Accepted; header = completed (header_after t header); image = (reading_of file).image }
+      → reading_of newFile ≡ record { verdict = no_refusal; header = completed (header_after t header); image = (reading_of file).image }
   new_record wr =
       let a = accepted_reads file was_accepted in
       let xs = accepted_list file was_accepted in
@@ -111,7 +110,7 @@ module _ {file image : List ℕ} {t : Turn} {newFile newImage : List ℕ} (w : T
       ap reading_of file_is
       ∙ ap (λ (r : Reading). reading_of (file_after t r.header file)) a
       ∙ new_reads file xs f t was_allowed.permutation old three
-      ∙ sym (ap (λ (r : Reading). record { verdict = Accepted; header = completed (header_after t r.header); image = r.image }) a)
+      ∙ sym (ap (λ (r : Reading). record { verdict = no_refusal; header = completed (header_after t r.header); image = r.image }) a)
 
   -- ---- the image
 

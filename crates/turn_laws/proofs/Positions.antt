@@ -1,6 +1,7 @@
 -- Positions after a turn, where they are exact. 02-change-requests.md, P10: "Positions aren't in that law: sums round." In the case of
 -- whole numbers that 01-scope.md states for the old rows no sum rounds, and the new file's position of a voxel is that of the voxel it
 -- came from.
+use Rattle.std.specs.Prelude.{Err}
 use Prim.Native.Nat.{ℕ, ◌-◌, ◌≤◌, ◌<◌}
 use mathlib.Core.Path.{◌≡◌, refl, sym, ap, subst, ◌∙◌}
 use mathlib.Core.Bool.{true, false}
@@ -18,7 +19,6 @@ use Rattle.header.specs.declared.Rows.{Rows}
 use Rattle.rules.specs.Rules.{axis_count, completed}
 use Rattle.reader.specs.declared.Reading.{Reading}
 use Rattle.reader.specs.Reading.{reading_of}
-use Rattle.position.specs.declared.Positioned.TheVariants.{Refused}
 use Rattle.position.specs.Positions.{length_at, three_axes, sform_of, position_in}
 use Rattle.affine.specs.Method.{position_of}
 use Rattle.affine.specs.Whole.{exact_of}
@@ -120,7 +120,7 @@ module _ {file image : List ℕ} {t : Turn} {newFile newImage : List ℕ} (all :
   placed =
       ap (λ (g : Rows). from_placed (position_of g.srow_x g.srow_y g.srow_z i j k)) (sym new_rows)
       ∙ position_placed (sform_of (header_after t header)) i j k new_inside above
-      ∙ sym (ap (λ (r : Reading). decided r.verdict (position_in r.header i j k) Refused) (turned_reads all w))
+      ∙ sym (ap (λ (r : Reading). decided r.verdict (position_in r.header i j k) Err) (turned_reads all w))
 
   -- In the new file it is the exact position that the old rows have for the voxel it came from,
   pub turned_position : ExactAt (sform_of header) rows (from 0) (from 1) (from 2) (position_at newFile i j k)

@@ -1,5 +1,6 @@
 -- The turned file, read again: none of rules 1 to 15 holds of it, its extensions are the old ones, and its record is the old one after the
 -- turn.
+use Rattle.refusal.specs.Table.{no_refusal}
 use Prim.Native.Nat.{ℕ, ◌+◌, ◌-◌, ◌/◌, ◌≤◌, ◌<◌}
 use mathlib.Core.Path.{◌≡◌, refl, sym, ap, subst, ◌∙◌}
 use mathlib.Core.Bool.{Bool, true, false, cond, true≢false}
@@ -8,7 +9,6 @@ use native.Mathlib.Omega.{arith}
 use borrow.Author.Tests.{ltb-false}
 use lib.ListN.{length, get_or, take, drop, length-append, length-drop}
 use lib.Seq.{get_or-drop}
-use Rattle.refusal.specs.declared.Verdict.TheVariants.{Accepted}
 use Rattle.field.specs.declared.Order.{Order}
 use Rattle.field.specs.declared.Order.TheVariants.{Little, Big}
 use Rattle.field.specs.Numbers.{bytes_at}
@@ -265,12 +265,12 @@ module _ (s : List ℕ) (xs : List Span) (f : AcceptedFile s xs) (t : Turn) (ht 
       new_file = judged_file new xs (file_judged new xs rules_new walked_new)
 
       -- its reading
-      pub new_reads : reading_of new ≡ record { verdict = Accepted; header = completed (header_after t old); image = image_of (shape_of s) }
+      pub new_reads : reading_of new ≡ record { verdict = no_refusal; header = completed (header_after t old); image = image_of (shape_of s) }
       new_reads =
           file_reads new xs new_file
           ∙ (λ i. record {
-            verdict = Accepted;
+            verdict = no_refusal;
             header = completed (header_of (new_order i) (new_kind i) (length xs) (spans_of xs) new);
             image = new_image i;
           })
-          ∙ (λ i. record { verdict = Accepted; header = completed (new_header i); image = image_of (shape_of s) })
+          ∙ (λ i. record { verdict = no_refusal; header = completed (new_header i); image = image_of (shape_of s) })

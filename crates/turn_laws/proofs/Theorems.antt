@@ -1,5 +1,6 @@
 -- The theorems on turned files (02-change-requests.md, P10), over the definitions that the promise of `turn` cites. What a buffer holds is
 -- bytes, and a turn that is spoken of was not refused: `IsBytes` and `Turns` say so.
+use Rattle.refusal.specs.Table.{no_refusal}
 use Prim.Native.Nat.{ℕ, ◌+◌, ◌≤◌}
 use mathlib.Core.Path.{◌≡◌, sym, ap, ◌∙◌}
 use mathlib.Core.Bool.{true}
@@ -7,7 +8,6 @@ use mathlib.Core.List.{List, [], ◌∷◌}
 use native.Mathlib.Omega.{arith}
 use lib.IntN.{pos}
 use lib.ListN.{length, get_or, take, drop}
-use Rattle.refusal.specs.declared.Verdict.TheVariants.{Accepted}
 use Rattle.header.specs.declared.Header.{Header}
 use Rattle.encode.proofs.Back.{Writable}
 use Rattle.rules.specs.Rules.{completed}
@@ -35,7 +35,7 @@ writable {file} all w = bytes_writable file (was_accepted w) all
 -- The turned file is accepted: the kind, the byte order, the extensions and all other fields are the old ones but for those that the turn
 -- changes, and so are the image's offset and bytes; its sizes are those of the new dims.
 pub turned_reads : {file image : List ℕ} {t : Turn} {newFile newImage : List ℕ} → IsBytes file → Turns file image t newFile newImage
-    → reading_of newFile ≡ record { verdict = Accepted; header = completed (header_after t (reading_of file).header); image = (reading_of file).image }
+    → reading_of newFile ≡ record { verdict = no_refusal; header = completed (header_after t (reading_of file).header); image = (reading_of file).image }
 turned_reads all w = new_record w (writable all w)
 
 -- its image bytes are the old ones, each voxel's those of the voxel it came from

@@ -1,5 +1,8 @@
 -- Any voxel of a turned file, asked by the voxel call: "Each voxel's bytes are those of the voxel it came from" (02-change-requests.md,
 -- P10), and an index that is outside is refused in the new file as in the old.
+use Rattle.refusal.specs.declared.Rule.TheVariants.{IndexOutside}
+use Rattle.std.specs.Prelude.{Ok, Err, Result}
+use Rattle.refusal.specs.declared.Refusal.{Refusal}
 use Prim.Native.Nat.{ℕ, ◌+◌, ◌*◌}
 use mathlib.Core.Path.{◌≡◌, refl, sym, ap, ◌∙◌}
 use mathlib.Core.Bool.{Bool, true, false, cond}
@@ -17,8 +20,6 @@ use Rattle.reader.specs.declared.Reading.{Reading}
 use Rattle.reader.specs.Reading.{reading_of, IsAccepted}
 use Rattle.reader.proofs.File.{record_image}
 use Rattle.voxel.specs.declared.Extent.{Extent}
-use Rattle.voxel.specs.declared.Located.{Located}
-use Rattle.voxel.specs.declared.Located.TheVariants.{At, Unlocated}
 use Rattle.voxel.specs.Voxel.{lengths_of, voxel_bytes, extent_of}
 use Rattle.by_file.specs.Files.{located_of, part_of, voxel_of}
 use Rattle.by_file.proofs.Voxels.{accepted_located}
@@ -37,16 +38,16 @@ use Rattle.turn_laws.proofs.Theorems.{turned_reads}
 -- of an accepted file whose image is whole, 17 alone is still to be given
 located : (file image index : List ℕ) (b : Bool) → let h = (reading_of file).header in
     IsAccepted file → image_cut h.kind (length image) (image_in h) ≡ false
-    → within (lengths_of h) index ≡ b → located_of file image index ≡ cond b (At (extent_of h index)) (Unlocated (refusal 17 0))
+    → within (lengths_of h) index ≡ b → located_of file image index ≡ cond b (Ok (extent_of h index)) (Err (refusal IndexOutside 0))
 unfolding verdict
 located file image index true a c e = accepted_located file image index a ∙ rw (c, e)
 located file image index false a c e = accepted_located file image index a ∙ rw (c, e)
 
 -- what is handed back of a voxel that has a place
-voxel_at : (file image index : List ℕ) (e : Extent) → located_of file image index ≡ At e
+voxel_at : (file image index : List ℕ) (e : Extent) → located_of file image index ≡ Ok e
     → voxel_of file image index ≡ take e.length (drop e.place (holder (reading_of file).header.kind file image))
 unfolding voxel_of
-voxel_at file image index e h = ap (λ (l : Located). part_of l (holder (reading_of file).header.kind file image)) h
+voxel_at file image index e h = ap (λ (l : Result Extent Refusal). part_of l (holder (reading_of file).header.kind file image)) h
 
 cut_length : (kind : Kind) (n : ℕ) (i : Image) → image_cut kind (image_length kind n) i ≡ image_cut kind n i
 cut_length Single n i = refl
@@ -82,8 +83,8 @@ module _ {file image : List ℕ} {t : Turn} {newFile newImage : List ℕ} (all :
 
     -- an index that is outside: 17, and so it is in the old file when it is taken back
     pub turned_outside : within (permuted 0 t (lengths_of header)) index ≡ false
-        → (located_of newFile newImage index ≡ Unlocated (refusal 17 0))
-        × (located_of file image (unpermuted 0 t index) ≡ Unlocated (refusal 17 0))
+        → (located_of newFile newImage index ≡ Err (refusal IndexOutside 0))
+        × (located_of file image (unpermuted 0 t index) ≡ Err (refusal IndexOutside 0))
     turned_outside e = (
       located newFile newImage index false new_accepted new_whole (ap (λ (l : List ℕ). within l index) new_lengths ∙ e),
       located file image (unpermuted 0 t index) false (was_accepted w) (was_allowed w).whole
@@ -101,11 +102,11 @@ module _ {file image : List ℕ} {t : Turn} {newFile newImage : List ℕ} (all :
           (sym (within_seven (ns w) (seven w) t (ht w) i j k is) ∙ e)
 
       -- an index that is inside: both have a place,
-      pub turned_located : (located_of newFile newImage index ≡ At (extent_of (header_after t header) index))
-          × (located_of file image from ≡ At (extent_of header from))
+      pub turned_located : (located_of newFile newImage index ≡ Ok (extent_of (header_after t header) index))
+          × (located_of file image from ≡ Ok (extent_of header from))
       turned_located = (
         located newFile newImage index true new_accepted new_whole (ap (λ (l : List ℕ). within l index) new_lengths ∙ e)
-            ∙ ap (λ (h : Header). At (extent_of h index)) new_header,
+            ∙ ap (λ (h : Header). Ok (extent_of h index)) new_header,
         located file image from true (was_accepted w) (was_allowed w).whole from_within,
       )
 

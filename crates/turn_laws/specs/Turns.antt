@@ -1,10 +1,9 @@
 -- A turn that was made, and what the laws of turns speak of (02-change-requests.md, P10).
-use Rattle.std.specs.Prelude.{◌≡◌, List, ℕ, ◌<◌, length, get_or, take, drop}
+use Rattle.std.specs.Prelude.{◌≡◌, List, ℕ, ◌<◌, length, get_or, take, drop, Ok}
 use Rattle.rules.specs.Rules.{holder}
 use Rattle.reader.specs.Reading.{reading_of}
 use Rattle.reorient.specs.declared.Turn.{Turn}
 use Rattle.turn.specs.declared.Lengths.{Lengths}
-use Rattle.turn.specs.declared.Turned.TheVariants.{Made}
 use Rattle.turn.specs.Turned.{turn_answer, turned_out, turned_out_image}
 
 -- "where no turn named is refused": the call on a file and an image file, with some two buffers, was not refused, and newFile and newImage
@@ -13,7 +12,7 @@ pub record Turns (file image : List ℕ) (t : Turn) (newFile newImage : List ℕ
   pub out : List ℕ
   pub out_image : List ℕ
   pub lengths : Lengths
-  pub made : turn_answer file image t (length out) (length out_image) ≡ Made lengths
+  pub made : turn_answer file image t (length out) (length out_image) ≡ Ok lengths
   pub is_file : newFile ≡ take lengths.file (turned_out file image t out out_image)
   pub is_image : newImage ≡ take lengths.image (turned_out_image file image t out out_image)
 

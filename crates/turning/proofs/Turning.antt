@@ -3,7 +3,7 @@
 use mathlib.Core.Path.{◌≡◌, refl, sym, ap, ◌∙◌}
 use mathlib.Core.Bool.{Bool, true, false, cond}
 use mathlib.Core.List.{List, [], ◌++◌, append_assoc}
-use Prim.Native.Nat.{ℕ, suc, ◌+◌, ◌-◌, ◌*◌, ◌≤◌}
+use Prim.Native.Nat.{ℕ, suc, ◌+◌, ◌-◌, ◌*◌, ◌≤◌, ◌<◌}
 use native.Mathlib.Omega.{arith}
 use native.Mathlib.Nat.{zero-add}
 use lib.IntN.{nat_abs}
@@ -90,6 +90,11 @@ module _ {goal : List ℕ} {order : Order} {n at : ℕ} {buf : List ℕ} (t : Tu
       let stays = behind 4 at 2 (at + size) buf (omega arith) (omega arith) in
       let rest : drop (at + size) buf' ≡ drop size (drop at buf) = rw e stays ∙ sym (drop-drop size at buf) in
       rw (← number_at order at buf) record { stand = rw rest f.2; comes = rw rest (rw ends at c.comes) }
+
+-- one more of n is still to be turned, where k of them are
+pub turn_left : {goal : List ℕ} {order : Order} {n k at : ℕ} {buf : List ℕ} → k < n → Turning goal order (n - k) at buf
+    → Turning goal order (suc (n - (k + 1))) at buf
+turn_left {n = n} {k = k} h t = let e : n - k ≡ suc (n - (k + 1)) = omega arith in rw e at t
 
 -- after the last
 pub turn_done : {goal : List ℕ} {order : Order} {at : ℕ} {buf : List ℕ} → Turning goal order 0 at buf → buf ≡ goal

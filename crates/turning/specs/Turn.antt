@@ -1,11 +1,10 @@
 -- What a swap turns round beside the header, and by which unit. 01-scope.md, "Voxels and byte order": "Swapping turns round ...
 -- each extension's size and code, and each swap unit of the image. All else stays: text, private bytes, payloads, an image file's
 -- front, bytes after the image."
-use Rattle.std.specs.Prelude.{ℕ, zero, suc, ◌-◌, ◌≤◌, List, [], ◌∷◌, ◌++◌, nat_abs, length, drop}
+use Rattle.datatype.specs.declared.Format.{Format}
+use Rattle.std.specs.Prelude.{ℕ, zero, suc, ◌-◌, ◌≤◌, List, [], ◌∷◌, ◌++◌, nat_abs, length, drop, Some, None, Option}
 use Rattle.field.specs.declared.Order.{Order}
 use Rattle.field.specs.Numbers.{i16_at, u32_at}
-use Rattle.datatype.specs.declared.Datatype.{Datatype}
-use Rattle.datatype.specs.declared.Datatype.TheVariants.{Known, Unknown}
 use Rattle.datatype.specs.Datatypes.{datatype_of}
 use Rattle.extension.specs.declared.Span.{Span}
 use Rattle.units.specs.Runs.{Run, run}
@@ -13,9 +12,9 @@ use Rattle.units.specs.Runs.{Run, run}
 -- ---- What the promise of swap rests on
 
 -- the swap unit of a datatype; one that the table lacks is refused before anything is turned (rule 6)
-abbrev pub unit_of : Datatype → ℕ
-unit_of (Known t) = t.unit
-unit_of Unknown = 1
+abbrev pub unit_of : Option Format → ℕ
+unit_of (Some t) = t.unit
+unit_of None = 1
 
 -- the swap unit of a file: that of its datatype, whatever its bitpix
 unfoldable pub unit_in : Order → List ℕ → ℕ

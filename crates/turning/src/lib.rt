@@ -2,23 +2,39 @@
 // (01-scope.md, "Voxels and byte order"). The file was accepted before; it is not judged here.
 #![tactic(auto)]
 
-ghost use Rattle.std.specs.Prelude.{◌≡◌, ◌+◌, ◌/◌, ◌≤◌, length, drop};
+ghost use Rattle.std.specs.Prelude.{◌≡◌, ◌+◌, ◌*◌, ◌/◌, ◌≤◌, length, drop};
 ghost use Rattle.extension.specs.Walk.{first_place};
 ghost use Rattle.units.specs.Units.{turned_at};
 ghost use Rattle.units.specs.Runs.{turn_runs_at};
 ghost use Rattle.turning.specs.Turn.{unit_in, runs_in, Standing};
 
-use datatype::Datatype;
 use extension::FIRST;
-use field::Order;
+use field::{Number, Order};
 use rules::Image;
 
-// How the units of an image are turned round: several together, or singly, one after the other. Both leave the same
-// bytes (02-change-requests.md, P3).
-#[derive(Clone, Copy)]
-pub enum Engine {
-    Together,
-    Singly,
+// How the units of an image are turned round. Every engine leaves the same bytes (02-change-requests.md, P3).
+pub trait Engine {
+    fn turn(buf: &mut [u8], start: usize, count: usize, unit: usize)
+        requires { start + count * unit ≤ length buf.old }
+        ensures { buf.new ≡ turned_at unit start count buf.old };
+}
+
+// Several units together.
+pub struct Together;
+
+impl Engine for Together {
+    fn turn(buf: &mut [u8], start: usize, count: usize, unit: usize) {
+        word_turns::turn_many(buf, start, count, unit)
+    }
+}
+
+// One unit after the other.
+pub struct Singly;
+
+impl Engine for Singly {
+    fn turn(buf: &mut [u8], start: usize, count: usize, unit: usize) {
+        units::turn_units(buf, start, count, unit)
+    }
 }
 
 // The swap unit of a file: that of its datatype.
@@ -26,11 +42,7 @@ pub fn unit_in(file: &[u8], order: Order) -> usize
     requires { 348 ≤ length file.now }
     ensures { result ≡ unit_in order file.now }
 {
-    let datatype = datatype::datatype_of(field::read_i16(file, 70, order));
-    match datatype {
-        Datatype::Known(format) => format.unit,
-        Datatype::Unknown => 1,
-    }
+    datatype::datatype_of(i16::read(file, 70, order)).map_or(1, |format| format.unit)
 }
 
 // Turns round the size and code of each of `count` extensions. A size is read, in the order that the file still has
@@ -41,24 +53,19 @@ pub fn turn_list(file: &mut [u8], count: usize, order: Order)
         ≡ turn_runs_at first_place (runs_in order count (drop first_place file.old)) file.old }
 {
     let mut at = FIRST;
-    let mut k: usize = 0;
-    while k < count {
-        let size = field::read_u32(file, at, order);
+    for _ in 0..count {
+        let size = u32::read(file, at, order);
         units::turn_units(file, at, 2, 4);
-        at = at + size as usize;
-        k += 1;
+        at += size as usize;
     }
 }
 
 // Turns round each unit of an image, in the buffer that holds it.
-pub fn turn_image(buf: &mut [u8], image: Image, unit: usize, engine: Engine)
+pub fn turn_image<E: Engine>(buf: &mut [u8], image: Image, unit: usize)
     requires { (1 ≤ unit) × (image.offset + image.bytes ≤ length buf.old) }
     ensures { buf.new ≡ turned_at unit image.offset (image.bytes / unit) buf.old }
 {
     let start = image.offset as usize;
     let count = image.bytes as usize / unit;
-    match engine {
-        Engine::Together => word_turns::turn_many(buf, start, count, unit),
-        Engine::Singly => units::turn_units(buf, start, count, unit),
-    }
+    E::turn(buf, start, count, unit)
 }

@@ -1,9 +1,8 @@
 -- The laws of turned units, each once over the width w. `turned_parts` says how units lie one after another, and most others follow from it.
 use mathlib.Core.Path.{◌≡◌, refl, sym, ap, ◌∙◌}
 use mathlib.Core.List.{List, [], ◌∷◌, ◌++◌, append_assoc, append-nil, reverse, reverse-reverse}
-use Prim.Native.Nat.{ℕ, zero, suc, ◌+◌, ◌*◌, ◌-◌, ◌≤◌, ◌<◌}
-use native.Mathlib.Nat.{suc-mul, add-mul, add_comm, zero-add, add-zero, zero-mul, suc-add, le-add_right}
-use native.Mathlib.Numerals.{sub-one}
+use Prim.Native.Nat.{ℕ, zero, suc, ◌+◌, ◌*◌, ◌-◌, ◌≤◌}
+use native.Mathlib.Nat.{suc-mul, add-mul, zero-add, add-zero, zero-mul, suc-add, le-add_right}
 use native.Mathlib.Omega.{arith}
 use lib.ListN.{length, take, drop, length-append, length-take, length-drop, length-reverse, take-append-drop}
 use lib.Seq.{length-take-le, take-take, take_at, drop_at, drop-drop, slice_empty}
@@ -132,8 +131,3 @@ turned_next w at m n l l' h k e =
 pub turned-reverse : (w at k : ℕ) (l part : List ℕ) → k ≡ w → part ≡ reverse (take k (drop at l)) → put_mid at k l part ≡ turned_at w at 1 l
 unfolding turned_at turned
 turned-reverse w at k l part e p = rw (p, e, drop-drop w at l)
-
--- the bytes of n units are those of one, and of the others
-pub bytes_left : (n w : ℕ) → 0 < n → n * w ≡ w + (n - 1) * w
-bytes_left zero w h = omega arith
-bytes_left (suc n) w h = rw (sub-one, suc-mul, add_comm w)

@@ -12,18 +12,15 @@ fn turn_each(buf: &mut [u8], start: usize, count: usize, unit: usize)
     requires { start + count * unit ≤ length buf.old }
     ensures { buf.new ≡ turned_at unit start count buf.old }
 {
-    let mut at = start;
-    let mut left = count;
-    while 0 < left {
-        let next = at + unit;
-        buf[at..next].reverse();
-        at = next;
-        left = left - 1;
+    for k in 0..count {
+        let at = start + k * unit;
+        buf[at..at + unit].reverse();
     }
 }
 
 // The same, with each width that a datatype has as a constant, so that the compiler makes and unrolls a loop for each.
 // A unit of one byte turned round is itself.
+#[tactic(auto, using(crate::proofs::Units::turned_at_bytes))]
 pub fn turn_units(buf: &mut [u8], start: usize, count: usize, unit: usize)
     requires { start + count * unit ≤ length buf.old }
     ensures { buf.new ≡ turned_at unit start count buf.old }

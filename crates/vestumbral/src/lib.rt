@@ -21,20 +21,20 @@ ghost use Rattle.turn.specs.Turned.{turn_answer, turned_out, turned_out_image};
 ghost use Rattle.turn_answers.specs.Answers.{turn_of, turned_answer};
 
 use answers::{ExtensionAnswer, FileAnswer, PositionAnswer, RankedAnswer, Reply, SliceAnswer};
-use outline::Outlined;
+use line_copy::{Steps, Voxels};
 use piece_answers::TakenAnswer;
 use pieces::Pieces;
 use turn_answers::TurnedAnswer;
+use turning::{Singly, Together};
 
 // Reads a file: what it shows of the record, or the refusal, 1 to 15.
 #[unsafe(no_mangle)]
 pub extern "C" fn vestumbral_read(file: &[u8]) -> FileAnswer
     ensures { result ≡ file_answer (reading_of file.now) }
 {
-    let outlined = outline::outline_of(file, 0);
-    match outlined {
-        Outlined::Hidden(r) => answers::refused_file(r),
-        Outlined::Shown(o) => answers::shown_file(file, o),
+    match outline::outline_of(file, 0) {
+        Err(r) => r.into(),
+        Ok(o) => answers::shown_file(file, o),
     }
 }
 
@@ -43,10 +43,9 @@ pub extern "C" fn vestumbral_read(file: &[u8]) -> FileAnswer
 pub extern "C" fn vestumbral_extension_at(file: &[u8], number: u64) -> ExtensionAnswer
     ensures { result ≡ extension_answer (reading_of file.now) number }
 {
-    let outlined = outline::outline_of(file, number as usize);
-    match outlined {
-        Outlined::Hidden(r) => answers::refused_extension(r),
-        Outlined::Shown(o) => answers::shown_extension(o, number as usize),
+    match outline::outline_of(file, number as usize) {
+        Err(r) => r.into(),
+        Ok(o) => answers::shown_extension(o, number as usize),
     }
 }
 
@@ -66,7 +65,7 @@ pub extern "C" fn vestumbral_voxel(
     ensures { result ≡ voxel_reply (located_of file.now image.now
         (i1 ∷ i2 ∷ i3 ∷ i4 ∷ i5 ∷ i6 ∷ i7 ∷ [])) }
 {
-    answers::voxel_reply(by_file::locate(file, image, i1, i2, i3, i4, i5, i6, i7))
+    by_file::locate(file, image, [i1, i2, i3, i4, i5, i6, i7]).into()
 }
 
 // The same of a file that was read before, by what vestumbral_read or vestumbral_pieces_file answered: the file is not read, and no dims are
@@ -93,8 +92,7 @@ pub extern "C" fn vestumbral_voxel_in(
     let kind = voxel_answers::kind_by(file.pair);
     let len = image_len as usize;
     let index = [i1, i2, i3, i4, i5, i6, i7];
-    let located = voxel::locate_at(&file.dim, offset, total, &file.step, kind, len, &index);
-    answers::voxel_reply(located)
+    voxel::locate_at(&file.dim, offset, total, &file.step, kind, len, &index).into()
 }
 
 // A slice's state, rank and time: 1 to 15, then 17.
@@ -102,7 +100,7 @@ pub extern "C" fn vestumbral_voxel_in(
 pub extern "C" fn vestumbral_slice_at(file: &[u8], slice: u64) -> SliceAnswer
     ensures { result ≡ slice_answer (slice_of file.now slice) }
 {
-    answers::slice_answer(slice_position::slice_at(file, slice))
+    slice_position::slice_at(file, slice).into()
 }
 
 // The slice of a rank: 1 to 15, then 17 where timing is stated.
@@ -110,7 +108,7 @@ pub extern "C" fn vestumbral_slice_at(file: &[u8], slice: u64) -> SliceAnswer
 pub extern "C" fn vestumbral_slice_of_rank(file: &[u8], rank: u64) -> RankedAnswer
     ensures { result ≡ ranked_answer (ranked_of file.now rank) }
 {
-    answers::ranked_answer(slice_position::slice_of_rank(file, rank))
+    slice_position::slice_of_rank(file, rank).into()
 }
 
 // A position by Method 3: 1 to 15, 17, then 23.
@@ -118,7 +116,7 @@ pub extern "C" fn vestumbral_slice_of_rank(file: &[u8], rank: u64) -> RankedAnsw
 pub extern "C" fn vestumbral_position_of(file: &[u8], i: u64, j: u64, k: u64) -> PositionAnswer
     ensures { result ≡ position_answer (position_at file.now i j k) }
 {
-    answers::position_answer(slice_position::position_of(file, i, j, k))
+    slice_position::position_of(file, i, j, k).into()
 }
 
 // Swaps the byte order of a file, and of a pair's image file, in place: 1 to 15, 16 for a pair.
@@ -128,8 +126,7 @@ pub extern "C" fn vestumbral_swap(file: &mut [u8], image: &mut [u8]) -> Reply
         × (file.new ≡ swapped_file file.old image.old)
         × (image.new ≡ swapped_image file.old image.old) }
 {
-    let verdict = byteswap::swap(file, image);
-    answers::swap_reply(verdict)
+    byteswap::swap::<Together>(file, image).into()
 }
 
 // The same answers and bytes as vestumbral_swap, unit by unit.
@@ -139,8 +136,7 @@ pub extern "C" fn vestumbral_swap_by_unit(file: &mut [u8], image: &mut [u8]) -> 
         × (file.new ≡ swapped_file file.old image.old)
         × (image.new ≡ swapped_image file.old image.old) }
 {
-    let verdict = byteswap::swap_by_unit(file, image);
-    answers::swap_reply(verdict)
+    byteswap::swap::<Singly>(file, image).into()
 }
 
 // Copies the voxels along an axis through a voxel into the front of a lent buffer: 1 to 15, 16 for a pair, 17, then 22.
@@ -163,8 +159,7 @@ pub extern "C" fn vestumbral_line(
         × (out.new ≡ line_out file.now image.now axis
         (i1 ∷ i2 ∷ i3 ∷ i4 ∷ i5 ∷ i6 ∷ i7 ∷ []) out.old) }
 {
-    let lined = line::line(file, image, axis, i1, i2, i3, i4, i5, i6, i7, out);
-    answers::line_reply(lined)
+    line::line::<Steps>(file, image, axis, [i1, i2, i3, i4, i5, i6, i7], out).into()
 }
 
 // The same answers and bytes as vestumbral_line, each voxel located by itself.
@@ -187,8 +182,7 @@ pub extern "C" fn vestumbral_line_by_voxel(
         × (out.new ≡ line_out file.now image.now axis
         (i1 ∷ i2 ∷ i3 ∷ i4 ∷ i5 ∷ i6 ∷ i7 ∷ []) out.old) }
 {
-    let lined = line::line_by_voxel(file, image, axis, i1, i2, i3, i4, i5, i6, i7, out);
-    answers::line_reply(lined)
+    line::line::<Voxels>(file, image, axis, [i1, i2, i3, i4, i5, i6, i7], out).into()
 }
 
 // Turns a volume into the fronts of two lent buffers, of which the second is for a pair's image file: 1 to 15, 16 for a pair,
@@ -214,8 +208,7 @@ pub extern "C" fn vestumbral_turn(
         (turn_of axis1 axis2 axis3 reverse1 reverse2 reverse3) out.old out_image.old }
 {
     let t = turn_answers::turn_of(axis1, axis2, axis3, reverse1, reverse2, reverse3);
-    let turned = turn::turn(file, image, t, out, out_image);
-    turn_answers::turned_answer(turned)
+    turn::turn(file, image, t, out, out_image).into()
 }
 
 // Edits of a file's extensions in place; the file is the buffer's first `file_len` bytes: 24, 1 to 15, then 18 to 22.
@@ -230,8 +223,7 @@ pub extern "C" fn vestumbral_append(
     ensures content { buffer.new ≡ buffer_after buffer.old file_len
         (outcome_of buffer.old file_len Append code payload.now) }
 {
-    let edited = edit::append(buffer, file_len as usize, code, payload);
-    answers::edit_reply(edited)
+    edit::append(buffer, file_len as usize, code, payload).into()
 }
 
 #[unsafe(no_mangle)]
@@ -247,8 +239,7 @@ pub extern "C" fn vestumbral_replace(
     ensures content { buffer.new ≡ buffer_after buffer.old file_len
         (outcome_of buffer.old file_len (Replace number) code payload.now) }
 {
-    let edited = edit::replace(buffer, file_len as usize, number as usize, code, payload);
-    answers::edit_reply(edited)
+    edit::replace(buffer, file_len as usize, number as usize, code, payload).into()
 }
 
 #[unsafe(no_mangle)]
@@ -257,8 +248,7 @@ pub extern "C" fn vestumbral_remove(buffer: &mut [u8], file_len: u64, number: u6
     ensures content { buffer.new ≡ buffer_after buffer.old file_len
         (outcome_of buffer.old file_len (Remove number) (pos 0) []) }
 {
-    let edited = edit::remove(buffer, file_len as usize, number as usize);
-    answers::edit_reply(edited)
+    edit::remove(buffer, file_len as usize, number as usize).into()
 }
 
 // A file that comes in pieces: the state before the first one.

@@ -1,16 +1,15 @@
 -- Where the sizes are those of the dims and the datatype, and rules 2 and 5 to 10 pass, the sizes give the answer that the dims give.
+use Rattle.std.specs.Prelude.{Ok, Err}
 use Prim.Native.Nat.{ℕ, ◌+◌, ◌*◌, ◌≤◌}
 use mathlib.Core.Path.{◌≡◌, refl, ap, sym, ◌∙◌}
 use mathlib.Core.Bool.{Bool, true, false}
 use mathlib.Core.List.{List}
-use native.Mathlib.Omega.{arith}
-use Rattle.refusal.specs.Table.{refusal, verdict, decided}
+use Rattle.refusal.specs.Table.{verdict, decided}
 use Rattle.refusal.proofs.Rows.{Clear, one, clear_accepted}
 use Rattle.datatype.proofs.Sound.{known_sound}
 use Rattle.offset.specs.Offset.{whole_of}
 use Rattle.grid.specs.declared.Sizes.{Sizes}
 use Rattle.grid.specs.Grid.{within, voxel_number}
-use Rattle.grid.specs.Axes.{image_limit}
 use Rattle.grid.specs.Sizes.{steps_to, sizes_by, bytes_before}
 use Rattle.grid.proofs.Axes.{voxel_inside}
 use Rattle.grid.proofs.Steps.{first_step_lem, steps_before}
@@ -19,12 +18,11 @@ use Rattle.rules.specs.declared.Shape.{Shape}
 use Rattle.rules.specs.Rules.{axis_count, offset_outside, image_of, image_cut, shape_rows, shape_of_record, record_rows, sizes_of, Measured}
 use Rattle.rules.proofs.Passed.{Fields, clear_fields}
 use Rattle.rules.proofs.Sizes.{shape_formed, shape_measured, measured_sizes}
-use Rattle.voxel.specs.declared.Located.TheVariants.{At, Unlocated}
 use Rattle.voxel.specs.Voxel.{lengths_in, bytes_in, image_rows_in, extent_in, located_by, located_in}
 use Rattle.voxel.specs.declared.Volume.{Volume}
-use Rattle.voxel.specs.Steps.{first_step, extent_by, strays, no_axes, stepped_by, stepped_in}
+use Rattle.voxel.specs.Steps.{first_step, strays, no_axes, stepped_by, stepped_in}
 use Rattle.voxel.proofs.Locating.{passed_located}
-use Rattle.voxel.proofs.Stepping.{stays, inside_stays, stepped_16, stepped_17, stepped_at, in_stepped}
+use Rattle.voxel.proofs.Stepping.{inside_stays, in_stepped}
 
 -- a voxel has a byte at least, and 32 at most
 pub shape_some : (f : Shape) → Clear (shape_rows f) → 1 ≤ bytes_in f
@@ -81,33 +79,12 @@ module _ (f : Shape) (c : Clear (shape_rows f)) (len : ℕ) (index : List ℕ) w
       ∙ sym (passed_located f len index (clear_accepted c))
     where
       by : (t u : Bool) → image_cut f.kind len (image_of f) ≡ t → within (lengths_in f) index ≡ u
-          → stepped_by v len index ≡ decided (verdict (image_rows_in f len index)) (At (extent_in f index)) Unlocated
+          → stepped_by v len index ≡ decided (verdict (image_rows_in f len index)) (Ok (extent_in f index)) Err
       by true u cut e = rw (passed_2 f c, low, cut)
       by false false cut e = rw (passed_2 f c, low, cut, e)
       by false true cut e =
           rw (passed_2 f c, low, cut, e, inside_kept e)
-          (λ i. At (record { place = whole_of f.vox_offset + before_is i; length = first-length i }))
-
-  -- rule by rule, for a caller that has judged 2, 5 to 10 by itself
-  pub located_16 : image_cut f.kind len (image_of f) ≡ true → Unlocated (refusal 16 0) ≡ located_by f len index
-  unfolding sizes_by
-  located_16 cut = stepped_16 v len index (passed_2 f c) low cut ∙ stepped_located
-
-  module _ (whole : image_cut f.kind len (image_of f) ≡ false) where
-    pub located_17 : within (lengths_in f) index ≡ false → Unlocated (refusal 17 0) ≡ located_by f len index
-    unfolding sizes_by
-    located_17 out = stepped_17 v len index (passed_2 f c) low whole out ∙ stepped_located
-
-    pub located_at : within (lengths_in f) index ≡ true → At (extent_by v index) ≡ located_by f len index
-    unfolding sizes_by
-    located_at inside = stepped_at v len index (passed_2 f c) low whole inside (inside_kept inside) ∙ stepped_located
-
-  -- and its bytes are before the image's end
-  pub located_small : within (lengths_in f) index ≡ true → bytes_before v.sizes.steps index ≤ image_limit
-  unfolding sizes_by
-  located_small inside =
-      let k = stays v.sizes.total (bytes_before v.sizes.steps index) (first_step v) (inside_kept inside) in
-      omega arith
+          (λ i. Ok (record { place = whole_of f.vox_offset + before_is i; length = first-length i }))
 
   right_located : stepped_by (volume_with f (sizes_of f.dim f.datatype)) len index ≡ located_by f len index
   right_located = ap (λ (z : Sizes). stepped_by (volume_with f z) len index) (sym (measured_sizes f measured)) ∙ stepped_located

@@ -1,8 +1,10 @@
 -- Where a voxel's bytes are, by the sizes that a record keeps (02-change-requests.md, P4: "The display asks for each voxel and .. should find
 -- the steps in the record"). Any record and any struct of the C interface has an answer. The law `read_stepped` (by_file/Steps) says that a
 -- record which reading gave has that of the call on its file.
-use Rattle.std.specs.Prelude.{ℕ, ◌+◌, Bool, cond, not, ◌||◌, List, [], ◌∷◌, ltb, ℤ, get_or}
+use Rattle.refusal.specs.declared.Rule.TheVariants.{AxisCount, OffsetNotWhole, OffsetOutside, ImageCut, IndexOutside, WrongRecord}
+use Rattle.std.specs.Prelude.{ℕ, ◌+◌, Bool, cond, not, ◌||◌, List, [], ◌∷◌, ltb, ℤ, get_or, Ok, Err, Result}
 use Rattle.refusal.specs.declared.Refusal.{Refusal}
+use Rattle.refusal.specs.declared.Rule.{Rule}
 use Rattle.refusal.specs.Table.{Row, row, refusal, verdict, decided}
 use Rattle.offset.specs.Offset.{is_whole, whole_of}
 use Rattle.grid.specs.Grid.{within}
@@ -14,8 +16,6 @@ use Rattle.rules.specs.declared.Image.{Image}
 use Rattle.rules.specs.Rules.{one_to_seven, axis_count, offset_outside, image_cut}
 use Rattle.voxel.specs.declared.Volume.{Volume}
 use Rattle.voxel.specs.declared.Extent.{Extent}
-use Rattle.voxel.specs.declared.Located.{Located}
-use Rattle.voxel.specs.declared.Located.TheVariants.{At, Unlocated}
 
 -- what a voxel is located by: how the axes go, where the image is, its sizes, and which file holds it
 abbrev pub volume : List ℤ → ℕ → ℕ → List ℕ → Kind → Volume
@@ -48,16 +48,16 @@ no_axes dim = not (one_to_seven (dim_at dim 0))
 -- 9, 16, 17 and 26
 abbrev pub step_rows : Volume → ℕ → List ℕ → List Row
 step_rows v len index =
-    row 9 (offset_outside v.kind v.offset 0) 108
-    ∷ row 16 (image_cut v.kind len (image_at v)) 0
-    ∷ row 17 (not (within (seven_axes v.dim (axis_count v.dim)) index)) 0
-    ∷ row 26 (strays v index) 0
+    row OffsetOutside (offset_outside v.kind v.offset 0) 108
+    ∷ row ImageCut (image_cut v.kind len (image_at v)) 0
+    ∷ row IndexOutside (not (within (seven_axes v.dim (axis_count v.dim)) index)) 0
+    ∷ row WrongRecord (strays v index) 0
     ∷ []
 
 -- "One call answers the place and length, or the refusal": by what a record or a struct keeps, with its offset as a whole number
-unfoldable pub stepped_by : Volume → ℕ → List ℕ → Located
+unfoldable pub stepped_by : Volume → ℕ → List ℕ → Result Extent Refusal
 stepped_by v len index =
-    decided (verdict (row 2 (no_axes v.dim) 40 ∷ step_rows v len index)) (At (extent_by v index)) Unlocated
+    decided (verdict (row AxisCount (no_axes v.dim) 40 ∷ step_rows v len index)) (Ok (extent_by v index)) Err
 
 -- and by a record, whose offset is a binary32: rule 8 has its place before 9
 abbrev pub volume_of : Header → Volume
@@ -65,13 +65,13 @@ volume_of h = record { dim = h.dim; offset = whole_of h.scale.vox_offset; sizes 
 
 abbrev pub record_step_rows : Header → ℕ → List ℕ → List Row
 record_step_rows h len index =
-    row 2 (no_axes h.dim) 40 ∷ row 8 (not (is_whole h.scale.vox_offset)) 108 ∷ step_rows (volume_of h) len index
+    row AxisCount (no_axes h.dim) 40 ∷ row OffsetNotWhole (not (is_whole h.scale.vox_offset)) 108 ∷ step_rows (volume_of h) len index
 
-unfoldable pub stepped_in : Header → ℕ → List ℕ → Located
-stepped_in h len index = decided (verdict (record_step_rows h len index)) (At (extent_by (volume_of h) index)) Unlocated
+unfoldable pub stepped_in : Header → ℕ → List ℕ → Result Extent Refusal
+stepped_in h len index = decided (verdict (record_step_rows h len index)) (Ok (extent_by (volume_of h) index)) Err
 
 -- ---- What only the steps between cite
 
 -- 2, or else a refusal of the voxel offset
-abbrev pub misplaced_by : List ℤ → ℕ → Refusal
-misplaced_by dim number = cond (no_axes dim) (refusal 2 40) (refusal number 108)
+abbrev pub misplaced_by : List ℤ → Rule → Refusal
+misplaced_by dim rule = cond (no_axes dim) (refusal AxisCount 40) (refusal rule 108)

@@ -1,6 +1,8 @@
 -- Where a voxel's bytes are, by the fields that rules 5 to 10 judge (01-scope.md, "Voxels and byte order", rules 16 and 17): what the calls on
 -- a file answer. Steps.antt has it by the sizes that a record keeps.
-use Rattle.std.specs.Prelude.{ℕ, ◌+◌, ◌*◌, ◌/◌, not, List, [], ◌∷◌, ◌++◌}
+use Rattle.refusal.specs.declared.Rule.TheVariants.{ImageCut, IndexOutside}
+use Rattle.refusal.specs.declared.Refusal.{Refusal}
+use Rattle.std.specs.Prelude.{ℕ, ◌+◌, ◌*◌, ◌/◌, not, List, [], ◌∷◌, ◌++◌, Ok, Err, Result}
 use Rattle.refusal.specs.Table.{Row, row, verdict, decided}
 use Rattle.number.specs.Natural.{natural_of}
 use Rattle.offset.specs.Offset.{whole_of}
@@ -10,8 +12,6 @@ use Rattle.header.specs.declared.Header.{Header}
 use Rattle.rules.specs.declared.Shape.{Shape}
 use Rattle.rules.specs.Rules.{axis_count, image_of, shape_rows, shape_of_record, image_cut}
 use Rattle.voxel.specs.declared.Extent.{Extent}
-use Rattle.voxel.specs.declared.Located.{Located}
-use Rattle.voxel.specs.declared.Located.TheVariants.{At, Unlocated}
 
 -- "Seven indexes; those after dim[0] must be 0": the seven lengths, 1 past dim[0]
 abbrev pub lengths_in : Shape → List ℕ
@@ -24,8 +24,8 @@ bytes_in f = natural_of f.bitpix / 8
 -- 16, and then 17: an index outside its axis
 abbrev pub image_rows_in : Shape → ℕ → List ℕ → List Row
 image_rows_in f len index =
-    row 16 (image_cut f.kind len (image_of f)) 0
-    ∷ row 17 (not (within (lengths_in f) index)) 0
+    row ImageCut (image_cut f.kind len (image_of f)) 0
+    ∷ row IndexOutside (not (within (lengths_in f) index)) 0
     ∷ []
 
 -- What is asked of fields, the image file's length and seven indexes. The fields' own rules, 2 and 5 to 10, come first: those of an
@@ -40,8 +40,8 @@ extent_in f index =
 
 -- "One call answers the place and length, or the refusal": by fields, an image file's length and seven indexes. The crate by_file
 -- has it of files.
-unfoldable pub located_by : Shape → ℕ → List ℕ → Located
-located_by f len index = decided (verdict (voxel_rows f len index)) (At (extent_in f index)) Unlocated
+unfoldable pub located_by : Shape → ℕ → List ℕ → Result Extent Refusal
+located_by f len index = decided (verdict (voxel_rows f len index)) (Ok (extent_in f index)) Err
 
 -- ---- The same of a record's fields
 
@@ -57,5 +57,5 @@ image_rows h len index = image_rows_in (shape_of_record h) len index
 abbrev pub extent_of : Header → List ℕ → Extent
 extent_of h index = extent_in (shape_of_record h) index
 
-abbrev pub located_in : Header → ℕ → List ℕ → Located
+abbrev pub located_in : Header → ℕ → List ℕ → Result Extent Refusal
 located_in h len index = located_by (shape_of_record h) len index

@@ -1,4 +1,5 @@
 -- P4: the struct that reading a file answers, asked for a voxel, gives what the call on the file gives, refusals included.
+use Rattle.std.specs.Prelude.{Ok, Err}
 use Prim.Native.Nat.{ℕ, ◌≤◌}
 use mathlib.Core.Path.{◌≡◌, refl, ap, sym, ◌∙◌}
 use mathlib.Core.Bool.{false, and-eq-true_iff}
@@ -8,9 +9,7 @@ use borrow.Author.Tests.{leb-true, ne_eqb}
 use lib.Dec.{leb, eqb}
 use lib.ListN.{length}
 use Rattle.refusal.specs.declared.Refusal.{Refusal}
-use Rattle.refusal.specs.declared.Verdict.{Verdict}
-use Rattle.refusal.specs.declared.Verdict.TheVariants.{Accepted, Refused}
-use Rattle.refusal.specs.Table.{decided}
+use Rattle.refusal.specs.Table.{decided, Verdict, number_of}
 use Rattle.grid.specs.Sizes.{sizes_by}
 use Rattle.header.specs.declared.Header.{Header}
 use Rattle.header.specs.declared.Kind.{Kind}
@@ -21,7 +20,6 @@ use Rattle.rules.proofs.Sizes.{shape_measured, measured_sizes}
 use Rattle.reader.specs.Reading.{reading_of, IsAccepted}
 use Rattle.reader.proofs.File.{accepted_record, accepted_sizes, record_image}
 use Rattle.reader.proofs.Theorems.{reading_number}
-use Rattle.voxel.specs.declared.Located.TheVariants.{Unlocated}
 use Rattle.voxel.specs.Voxel.{bytes_in, located_in}
 use Rattle.voxel.specs.declared.Volume.{Volume}
 use Rattle.voxel.specs.Steps.{stepped_by}
@@ -62,11 +60,11 @@ module _ (s : List ℕ) (a : IsAccepted s) where
       ap (λ (v : Volume). stepped_by v len index) volume_is ∙ stepped_located f (accepted_record s a) len index
 
 -- and a refused one's has its number, which is not 0
-refused_some : (s : List ℕ) (r : Refusal) → (reading_of s).verdict ≡ Refused r → eqb r.number 0 ≡ false
+refused_some : (s : List ℕ) (r : Refusal) → (reading_of s).verdict ≡ Err r → eqb (number_of r.rule) 0 ≡ false
 refused_some s r e =
-    let p = (and-eq-true_iff (leb 1 r.number) (leb r.number 15)).0 (reading_number s r e) in
-    let n : 1 ≤ r.number = leb-true 1 r.number p.0 in
-    ne_eqb r.number 0 (λ z. absurd (omega arith))
+    let p = (and-eq-true_iff (leb 1 (number_of r.rule)) (leb (number_of r.rule) 15)).0 (reading_number s r e) in
+    let n : 1 ≤ (number_of r.rule) = leb-true 1 (number_of r.rule) p.0 in
+    ne_eqb (number_of r.rule) 0 (λ z. absurd (omega arith))
 
 pub voxel_in_read : (file image index : List ℕ)
     → voxel_in (file_answer (reading_of file)) (length image) index ≡ voxel_reply (located_of file image index)
@@ -78,6 +76,6 @@ voxel_in_read file image index = by (reading_of file).verdict refl
 
     by : (v : Verdict) → (reading_of file).verdict ≡ v
         → voxel_in (decided v (shown_file h (reading_of file).image) refused_file) (length image) index
-        ≡ voxel_reply (decided v (located_in h (length image) index) Unlocated)
-    by Accepted a = ap voxel_reply (shown_voxel file a (length image) index)
-    by (Refused r) e = rw (refused_some file r e)
+        ≡ voxel_reply (decided v (located_in h (length image) index) Err)
+    by (Ok tt) a = ap voxel_reply (shown_voxel file a (length image) index)
+    by (Err r) e = rw (refused_some file r e)

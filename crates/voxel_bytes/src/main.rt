@@ -18,51 +18,29 @@ const HEADER_END: usize = 712;
 
 const IMAGE_END: usize = 729;
 
-fn say(rt: &impl Print, text: &[u8]) -> io::Result<()> {
-    rt.write_all(text)
-}
-
-fn say_number(rt: &impl Print, n: u64) -> io::Result<()> {
-    print!(rt; "{n}")
-}
-
-fn say_byte(rt: &impl Print, b: u8) -> io::Result<()> {
-    say(rt, b" ")?;
-    say_number(rt, b as u64)
-}
-
-fn print_bytes(rt: &impl Print, part: &[u8]) -> io::Result<()> {
-    for b in part {
-        say_byte(rt, *b)?;
+fn print_voxel(rt: &impl Print, file: &[u8], image: &[u8], i: u64, j: u64) -> io::Result<()> {
+    print!(rt; "voxel {i} {j}:")?;
+    for b in by_file::voxel(file, image, [i, j, 0, 0, 0, 0, 0]) {
+        print!(rt; " {b}")?;
     }
-    say(rt, b"\n")
-}
-
-fn print_voxel<'a>(
-    rt: &impl Print,
-    file: &'a [u8],
-    image: &'a [u8],
-    i: u64,
-    j: u64,
-) -> io::Result<()> {
-    say(rt, b"voxel ")?;
-    say_number(rt, i)?;
-    say(rt, b" ")?;
-    say_number(rt, j)?;
-    say(rt, b":")?;
-    print_bytes(rt, by_file::voxel(file, image, i, j, 0, 0, 0, 0, 0))
+    println!(rt;)
 }
 
 // All six voxels, and the first index outside each axis.
-fn print_voxels<'a>(rt: &impl Print, file: &'a [u8], image: &'a [u8]) -> io::Result<()> {
-    print_voxel(rt, file, image, 0, 0)?;
-    print_voxel(rt, file, image, 1, 0)?;
-    print_voxel(rt, file, image, 2, 0)?;
-    print_voxel(rt, file, image, 3, 0)?;
-    print_voxel(rt, file, image, 0, 1)?;
-    print_voxel(rt, file, image, 1, 1)?;
-    print_voxel(rt, file, image, 2, 1)?;
-    print_voxel(rt, file, image, 0, 2)
+fn print_voxels(rt: &impl Print, file: &[u8], image: &[u8]) -> io::Result<()> {
+    for (i, j) in [
+        (0, 0),
+        (1, 0),
+        (2, 0),
+        (3, 0),
+        (0, 1),
+        (1, 1),
+        (2, 1),
+        (0, 2),
+    ] {
+        print_voxel(rt, file, image, i, j)?;
+    }
+    Ok(())
 }
 
 fn print_files(rt: &impl Print, input: &[u8]) -> io::Result<()> {
@@ -72,13 +50,13 @@ fn print_files(rt: &impl Print, input: &[u8]) -> io::Result<()> {
     let file = &input[0..SINGLE_END];
     let header = &input[SINGLE_END..HEADER_END];
     let image = &input[HEADER_END..];
-    say(rt, b"single file\n")?;
-    print_voxels(rt, file, &file[0..0])?;
-    say(rt, b"single file, with the image file of another\n")?;
+    println!(rt; "single file")?;
+    print_voxels(rt, file, &[])?;
+    println!(rt; "single file, with the image file of another")?;
     print_voxels(rt, file, image)?;
-    say(rt, b"pair\n")?;
+    println!(rt; "pair")?;
     print_voxels(rt, header, image)?;
-    say(rt, b"pair, its image file a byte short\n")?;
+    println!(rt; "pair, its image file a byte short")?;
     print_voxels(rt, header, &image[0..16])
 }
 

@@ -7,29 +7,24 @@ ghost use Rattle.std.specs.Prelude.{◌≡◌};
 ghost use Rattle.voxel_run.specs.Farthest.{place_of, farthest_in, farthest};
 
 use header::Header;
-use refusal::Verdict;
-use voxel::Located;
+use refusal::Refusal;
+use voxel::Extent;
 
 // A voxel's place, and 0 where it is refused.
-fn place_of(located: Located) -> usize
+fn place_of(located: Result<Extent, Refusal>) -> u64
     ensures { result ≡ place_of located }
 {
-    match located {
-        Located::At(e) => e.place as usize,
-        Located::Unlocated(_) => 0,
-    }
+    located.map_or(0, |e| e.place)
 }
 
 // By a record that was read before.
-fn run_in(header: Header, count: u64) -> usize
+fn run_in(header: Header, count: u64) -> u64
     ensures { result ≡ farthest_in header count }
 {
     let mut most = 0;
-    let mut k = 0;
-    while k < count {
-        let located = voxel::locate_in(header, 0, k, 0, 0, 0, 0, 0, 0);
-        most = number::greater(most, place_of(located));
-        k += 1;
+    for k in 0..count {
+        let located = voxel::locate_in(header, 0, [k, 0, 0, 0, 0, 0, 0]);
+        most = most.max(place_of(located));
     }
     most
 }
@@ -40,13 +35,9 @@ pub extern "C" fn voxel_run_by_record(file: &[u8], count: u64) -> u64
     ensures { result ≡ farthest file.now count }
 {
     let reading = reader::read(file);
-    let verdict = reading.verdict;
-    match verdict {
-        Verdict::Refused(_) => 0,
-        Verdict::Accepted => {
-            let header = reading.header;
-            run_in(header, count) as u64
-        }
+    match reading.verdict {
+        Err(_) => 0,
+        Ok(()) => run_in(reading.header, count),
     }
 }
 
@@ -55,13 +46,10 @@ pub extern "C" fn voxel_run_by_record(file: &[u8], count: u64) -> u64
 pub extern "C" fn voxel_run_by_file(file: &[u8], count: u64) -> u64
     ensures { result ≡ farthest file.now count }
 {
-    let none = [0u8; 0];
     let mut most = 0;
-    let mut k = 0;
-    while k < count {
-        let located = by_file::locate(file, &none, k, 0, 0, 0, 0, 0, 0);
-        most = number::greater(most, place_of(located));
-        k += 1;
+    for k in 0..count {
+        let located = by_file::locate(file, &[], [k, 0, 0, 0, 0, 0, 0]);
+        most = most.max(place_of(located));
     }
-    most as u64
+    most
 }

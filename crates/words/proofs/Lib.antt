@@ -2,4 +2,3 @@
 pub mod Bytes
 pub mod Exchange
 pub mod Steps
-pub mod Stored

@@ -1,20 +1,17 @@
 -- 01-scope.md, "Numbers on each side": file A, and each answer as a list of the paper's numbers, so that all rows are one table.
-use Rattle.std.specs.Prelude.{ℕ, Bool, cond, List, [], ◌∷◌, ◌++◌, pos, take, replicate}
+use Rattle.edit.specs.declared.NewFile.{NewFile}
+use Rattle.voxel.specs.declared.Extent.{Extent}
+use Rattle.timing.specs.declared.Slice.TheVariants.{Unstated, Padding, Timed}
+use Rattle.std.specs.Prelude.{ℕ, Bool, cond, List, [], ◌∷◌, ◌++◌, pos, take, replicate, Ok, Err, Result}
 use Rattle.field.specs.Numbers.{tabulate, joined}
 use Rattle.refusal.specs.declared.Refusal.{Refusal}
-use Rattle.refusal.specs.declared.Verdict.{Verdict}
-use Rattle.refusal.specs.Table.{decided}
+use Rattle.refusal.specs.Table.{decided, Verdict, number_of}
 use Rattle.offset.specs.Offset.{offset_of, offset_numbers}
 use Rattle.reader.specs.Reading.{reading_of}
 use Rattle.timing.specs.declared.Slice.{Slice}
-use Rattle.timing.specs.declared.Slice.TheVariants as slice
-use Rattle.voxel.specs.declared.Located.{Located}
-use Rattle.voxel.specs.declared.Located.TheVariants.{At, Unlocated}
 use Rattle.by_file.specs.Files.{located_of}
 use Rattle.slice_position.specs.Files.{slice_of}
 use Rattle.change.specs.declared.Change.TheVariants.{Append}
-use Rattle.edit.specs.declared.Edited.{Edited}
-use Rattle.edit.specs.declared.Edited.TheVariants.{Done, Denied}
 use Rattle.edit.specs.Outcome.{Outcome, outcome_of, buffer_after}
 
 abbrev pub zeros : ℕ → List ℕ
@@ -44,23 +41,23 @@ file_a = file_with (0 ∷ 0 ∷ 0xB0 ∷ 0x43 ∷ [])
 
 -- an answer's numbers: 0 for success, or the refusal's number and place
 abbrev pub of_refusal : Refusal → List ℕ
-of_refusal r = r.number ∷ r.place ∷ []
+of_refusal r = number_of r.rule ∷ r.place ∷ []
 
 abbrev pub of_verdict : Verdict → List ℕ
 of_verdict v = decided v (0 ∷ []) of_refusal
 
-abbrev pub of_located : Located → List ℕ
-of_located (At e) = 0 ∷ e.place ∷ e.length ∷ []
-of_located (Unlocated r) = of_refusal r
+abbrev pub of_located : Result Extent Refusal → List ℕ
+of_located (Ok e) = 0 ∷ e.place ∷ e.length ∷ []
+of_located (Err r) = of_refusal r
 
 -- whether an offset is aligned (02-change-requests.md, P6)
 abbrev pub of_fact : Bool → ℕ
 of_fact aligned = cond aligned 1 0
 
 -- the new length, and whether the new offset is aligned
-abbrev pub of_edited : Edited → List ℕ
-of_edited (Done file) = 0 ∷ file.length ∷ of_fact file.aligned ∷ []
-of_edited (Denied r) = of_refusal r
+abbrev pub of_edited : Result NewFile Refusal → List ℕ
+of_edited (Ok file) = 0 ∷ file.length ∷ of_fact file.aligned ∷ []
+of_edited (Err r) = of_refusal r
 
 -- a voxel of two indexes, of a single file
 abbrev pub at : List ℕ → ℕ → ℕ → List ℕ
@@ -99,11 +96,11 @@ slices_file code =
     ++ (0x6E ∷ 0x2B ∷ 0x31 ∷ 0 ∷ zeros 11))))))
 
 -- a slice's answer: 0 unstated, 1 padding, 2 with the rank; or the refusal
-abbrev pub of_slice : Slice → List ℕ
-of_slice (slice.Refused r) = of_refusal r
-of_slice slice.Unstated = 0 ∷ []
-of_slice slice.Padding = 1 ∷ []
-of_slice (slice.Timed rank t) = 2 ∷ rank ∷ []
+abbrev pub of_slice : Result Slice Refusal → List ℕ
+of_slice (Err r) = of_refusal r
+of_slice (Ok Unstated) = 0 ∷ []
+of_slice (Ok Padding) = 1 ∷ []
+of_slice (Ok (Timed rank t)) = 2 ∷ rank ∷ []
 
 -- the answers of slices 0 to 5, one after the other
 abbrev pub slices_by : ℕ → List ℕ

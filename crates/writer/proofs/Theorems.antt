@@ -1,5 +1,6 @@
 -- Demand 2: "Writing the record gives the same 348 bytes." The record of an accepted file is never refused for what it holds, and
 -- written to any buffer that has room it puts the file's first 348 bytes there and leaves the rest.
+use Rattle.refusal.specs.Table.{no_refusal}
 use Prim.Native.Nat.{ℕ, ◌≤◌, ◌<◌}
 use mathlib.Core.Path.{◌≡◌, ap, ◌∙◌}
 use mathlib.Core.List.{List, ◌++◌}
@@ -7,7 +8,6 @@ use borrow.Author.Tests.{le-ltb}
 use lib.ListN.{length, get_or, take, drop}
 use Rattle.number.proofs.Same.{same_is}
 use Rattle.field.specs.Numbers.{bytes_at}
-use Rattle.refusal.specs.declared.Verdict.TheVariants.{Accepted}
 use Rattle.refusal.proofs.Rows.{none, one, clear_accepted, clear_append}
 use Rattle.reader.specs.Reading.{reading_of, IsAccepted}
 use Rattle.layout.specs.File.{order_of, kind_of, has_magic}
@@ -31,7 +31,7 @@ accepted_back s a all =
     ∙ header_back (order_of s) s all (kind_of s) (length xs) (spans_of xs) r.size m r.long
 
 module _ (s : List ℕ) (a : IsAccepted s) (l : List ℕ) (room : 348 ≤ length l) where
-  pub write_accepts : write_answer (reading_of s).header (length l) ≡ Accepted
+  pub write_accepts : write_answer (reading_of s).header (length l) ≡ no_refusal
   unfolding write_answer
   write_accepts =
       let right = right_passes (reading_of s).header (accepted_sizes s a, accepted_aligned s a) in

@@ -1,19 +1,22 @@
 -- What writing decides: the record's rules, its sizes and its aligned fact, then the buffer's length; 26 exactly when; and that the spans
 -- play no part in it, nor those facts in the bytes.
+use Rattle.refusal.specs.declared.Rule.TheVariants.{ShortBuffer, WrongRecord}
+use Rattle.std.specs.Prelude.{Ok, Err}
 use Prim.Native.Nat.{ℕ, ◌<◌, ◌≤◌}
-use mathlib.Core.Path.{◌≡◌, refl, sym, ◌∙◌}
+use mathlib.Core.Path.{◌≡◌, refl, sym, ap, ◌∙◌}
 use mathlib.Core.Logic.{◌↔◌}
-use mathlib.Core.Bool.{Bool, true, false, not, true≢false, false≢true}
+use mathlib.Core.Bool.{Bool, true, false, not, ◌&&◌, true≢false, false≢true}
 use mathlib.Core.List.{List, [], ◌∷◌}
 use native.Mathlib.Omega.{arith}
 use borrow.Author.Tests.{lt-ltb, le-ltb, not-false}
 use lib.Dec.{ltb, eqb}
 use lib.ListN.{length}
+use lib.Pointwise.{pointwise}
 use lib.Seq.{sets}
+use Rattle.number.specs.Same.{same_numbers}
+use Rattle.grid.specs.Sizes.{same_sizes}
 use Rattle.refusal.specs.declared.Refusal.{Refusal}
-use Rattle.refusal.specs.declared.Verdict.{Verdict}
-use Rattle.refusal.specs.declared.Verdict.TheVariants.{Accepted, Refused}
-use Rattle.refusal.specs.Table.{Row, row, refusal, verdict, then}
+use Rattle.refusal.specs.Table.{Row, row, refusal, verdict, then, Verdict, no_refusal}
 use Rattle.refusal.proofs.Rows.{Clear, accepted_clear, clear_accepted, verdict-append, verdict_number}
 use Rattle.field.proofs.Stores.{sets_front}
 use Rattle.extension.specs.declared.Span.{Span}
@@ -24,7 +27,6 @@ use Rattle.header.specs.Fields.{with_spans, with_facts}
 use Rattle.encode.specs.Encode.{encode}
 use Rattle.encode.proofs.Widths.{length-encode}
 use Rattle.rules.specs.declared.Image.{Image}
-use Rattle.rules.specs.declared.Judged.TheVariants.{Passed, Failed}
 use Rattle.rules.specs.Rules.{sizes_of, wrong_sizes, wrong_fact, wrong_facts, record_rows, record_judged}
 use Rattle.rules.proofs.Passed.{record_passed_is, record_failed_is, neither}
 use Rattle.rules.proofs.Sizes.{sizes_same, sizes_self, fact_same, fact_self}
@@ -36,7 +38,7 @@ Writes h l answer content = (answer ≡ write_answer h (length l)) × (content �
 
 -- the rows after the record's own
 abbrev own_rows : Header → ℕ → List Row
-own_rows h len = row 26 (wrong_facts h) 0 ∷ row 22 (ltb len 348) 0 ∷ []
+own_rows h len = row WrongRecord (wrong_facts h) 0 ∷ row ShortBuffer (ltb len 348) 0 ∷ []
 
 answer_parts : (h : Header) (len : ℕ) → write_answer h len ≡ then (verdict (record_rows h)) (verdict (own_rows h len))
 unfolding write_answer
@@ -46,27 +48,27 @@ module _ (h : Header) (l : List ℕ) where
   in_parts : write_answer h (length l) ≡ then (verdict (record_rows h)) (verdict (own_rows h (length l)))
   in_parts = answer_parts h (length l)
 
-  kept : (r : Refusal) → write_answer h (length l) ≡ Refused r → Writes h l (Refused r) l
+  kept : (r : Refusal) → write_answer h (length l) ≡ Err r → Writes h l (Err r) l
   unfolding written
   kept r e = (sym e, rw e)
 
-  pub writes_failed : (r : Refusal) → record_judged h ≡ Failed r → Writes h l (Refused r) l
+  pub writes_failed : (r : Refusal) → record_judged h ≡ Err r → Writes h l (Err r) l
   writes_failed r e = kept r (in_parts ∙ rw (record_failed_is h r e))
 
-  module _ (i : Image) (aligned : Bool) (e : record_judged h ≡ Passed i aligned) where
-    pub writes_26 : wrong_facts h ≡ true → Writes h l (Refused (refusal 26 0)) l
+  module _ (i : Image) (aligned : Bool) (e : record_judged h ≡ Ok (i, aligned)) where
+    pub writes_26 : wrong_facts h ≡ true → Writes h l (Err (refusal WrongRecord 0)) l
     unfolding verdict
-    writes_26 wrong = kept (refusal 26 0) (in_parts ∙ rw ((record_passed_is h i aligned e).0, wrong))
+    writes_26 wrong = kept (refusal WrongRecord 0) (in_parts ∙ rw ((record_passed_is h i aligned e).0, wrong))
 
     module _ (right : wrong_facts h ≡ false) where
-      pub writes_22 : length l < 348 → Writes h l (Refused (refusal 22 0)) l
+      pub writes_22 : length l < 348 → Writes h l (Err (refusal ShortBuffer 0)) l
       unfolding verdict
-      writes_22 short = kept (refusal 22 0) (in_parts ∙ rw ((record_passed_is h i aligned e).0, right, lt-ltb (length l) 348 short))
+      writes_22 short = kept (refusal ShortBuffer 0) (in_parts ∙ rw ((record_passed_is h i aligned e).0, right, lt-ltb (length l) 348 short))
 
-      pub writes_all : 348 ≤ length l → Writes h l Accepted (sets l 0 (encode h))
+      pub writes_all : 348 ≤ length l → Writes h l no_refusal (sets l 0 (encode h))
       unfolding verdict written
       writes_all long =
-          let a : write_answer h (length l) ≡ Accepted = in_parts ∙ rw ((record_passed_is h i aligned e).0, right, le-ltb (length l) 348 long) in
+          let a : write_answer h (length l) ≡ no_refusal = in_parts ∙ rw ((record_passed_is h i aligned e).0, right, le-ltb (length l) 348 long) in
           let n = length-encode h in
           let fits : length (encode h) ≤ length l = omega arith in
           (sym a, rw a (rw n at (sets_front (encode h) l fits)))
@@ -88,6 +90,17 @@ passes_right h e =
       fact_same h.aligned (aligned_of h.scale.vox_offset) (not-false _ n.1),
     )
 
+-- what the test of the sizes reads: `==` of two lists of numbers says what `same_numbers` says
+same_pointwise : (l m : List ℕ) → pointwise eqb l m ≡ same_numbers l m
+same_pointwise [] [] = refl
+same_pointwise [] (b ∷ bs) = refl
+same_pointwise (a ∷ l) [] = refl
+same_pointwise (a ∷ l) (b ∷ bs) = ap (λ t. eqb a b && t) (same_pointwise l bs)
+
+pub wrong_read : (h : Header) (s : Sizes) → s ≡ sizes_of h.dim h.intent.datatype
+    → not (eqb h.sizes.total s.total && pointwise eqb h.sizes.steps s.steps) ≡ wrong_sizes h
+wrong_read h s e = ap (λ t. not (eqb h.sizes.total s.total && t)) (same_pointwise h.sizes.steps s.steps) ∙ ap (λ z. not (same_sizes h.sizes z)) e
+
 wrong_is : (h : Header) → (wrong_facts h ≡ true) ↔ (Right h → ⊥)
 wrong_is h = by (wrong_facts h) refl
   where
@@ -96,12 +109,12 @@ wrong_is h = by (wrong_facts h) refl
     by false e = (λ d. absurd (true≢false (sym d ∙ e)), λ wrong. absurd (wrong (passes_right h e)))
 
 module _ (h : Header) (len : ℕ) where
-  gives_26 : Clear (record_rows h) → wrong_facts h ≡ true → write_answer h len ≡ Refused (refusal 26 0)
+  gives_26 : Clear (record_rows h) → wrong_facts h ≡ true → write_answer h len ≡ Err (refusal WrongRecord 0)
   unfolding verdict
   gives_26 c wrong = answer_parts h len ∙ rw (clear_accepted c, wrong)
 
   -- the record's own rules have other numbers, and so has 22
-  only_26 : write_answer h len ≡ Refused (refusal 26 0) → Clear (record_rows h) × (wrong_facts h ≡ true)
+  only_26 : write_answer h len ≡ Err (refusal WrongRecord 0) → Clear (record_rows h) × (wrong_facts h ≡ true)
   unfolding verdict
   only_26 e = by (verdict (record_rows h)) (wrong_facts h) refl refl (sym (answer_parts h len) ∙ e)
     where
@@ -109,14 +122,14 @@ module _ (h : Header) (len : ℕ) where
       other n = not (eqb n 26)
 
       by : (v : Verdict) (t : Bool) → verdict (record_rows h) ≡ v → wrong_facts h ≡ t
-          → then v (verdict (row 26 t 0 ∷ row 22 (ltb len 348) 0 ∷ [])) ≡ Refused (refusal 26 0) → Clear (record_rows h) × (wrong_facts h ≡ true)
-      by (Refused q) t a w d =
-          let z : q ≡ refusal 26 0 = cc in
+          → then v (verdict (row WrongRecord t 0 ∷ row ShortBuffer (ltb len 348) 0 ∷ [])) ≡ Err (refusal WrongRecord 0) → Clear (record_rows h) × (wrong_facts h ≡ true)
+      by (Err q) t a w d =
+          let z : q ≡ refusal WrongRecord 0 = cc in
           absurd (false≢true (rw z at (verdict_number other (record_rows h) q refl a)))
-      by Accepted true a w d = (accepted_clear (record_rows h) a, w)
-      by Accepted false a w d = absurd (false≢true (verdict_number other (row 22 (ltb len 348) 0 ∷ []) (refusal 26 0) refl d))
+      by (Ok tt) true a w d = (accepted_clear (record_rows h) a, w)
+      by (Ok tt) false a w d = absurd (false≢true (verdict_number other (row ShortBuffer (ltb len 348) 0 ∷ []) (refusal WrongRecord 0) refl d))
 
-  pub write_26 : (write_answer h len ≡ Refused (refusal 26 0)) ↔ (Clear (record_rows h) × (Right h → ⊥))
+  pub write_26 : (write_answer h len ≡ Err (refusal WrongRecord 0)) ↔ (Clear (record_rows h) × (Right h → ⊥))
   write_26 = (
     λ e. let p = only_26 e in (p.0, (wrong_is h).0 p.1),
     λ p. gives_26 p.0 ((wrong_is h).1 p.1),

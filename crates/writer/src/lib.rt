@@ -2,19 +2,12 @@
 // record"; 02-change-requests.md, P4 and P6).
 #![tactic(auto)]
 
-ghost use Rattle.std.specs.Prelude.{◌≡◌, length};
+ghost use Rattle.std.specs.Prelude.{◌≡◌, length, Err};
 ghost use Rattle.rules.specs.Rules.{shape_of_record, aligned_in, wrong_facts, Measured};
 ghost use Rattle.writer.specs.Write.{write_answer, written};
 
 use header::Header;
-use refusal::{Refusal, Verdict};
-use rules::Judged;
-
-fn refused(number: u64) -> Verdict
-    ensures { result ≡ Verdict.Refused (record { number = number; place = 0 }) }
-{
-    Verdict::Refused(Refusal { number, place: 0 })
-}
+use refusal::{Refusal, Rule};
 
 // 26, of a record that rules 2 and 5 to 10 pass: whether a size is not what its dims and datatype give, or its aligned fact not
 // what the reading of its offset said.
@@ -23,33 +16,22 @@ fn has_wrong_facts(header: Header, aligned: bool) -> bool
     requires header_value { aligned_in (shape_of_record header) ≡ aligned }
     ensures { result ≡ wrong_facts header }
 {
-    let dim = header.dim;
-    let intent = header.intent;
-    let sizes = header.sizes;
-    if !sizes::are_same(sizes, sizes::sizes_in(dim, intent.bitpix)) {
-        return true;
-    }
-    header.aligned != aligned
+    header.sizes != sizes::sizes_in(header.dim, header.intent.bitpix) || header.aligned != aligned
 }
 
 // Writes 348 and the kind's magic and all other fields as the record has them, in the record's own byte order. Only the
 // first 348 bytes change, and on a refusal none. The record's spans are not read.
-pub fn write(header: Header, buf: &mut [u8]) -> Verdict
+pub fn write(header: Header, buf: &mut [u8]) -> Result<(), Refusal>
     ensures answer { result ≡ write_answer header (length buf.old) }
     ensures content { buf.new ≡ written header buf.old }
 {
-    let judged = rules::judge_record(header);
-    match judged {
-        Judged::Failed(r) => Verdict::Refused(r),
-        Judged::Passed(_, aligned) => {
-            if has_wrong_facts(header, aligned) {
-                return refused(26);
-            }
-            if buf.len() < 348 {
-                return refused(22);
-            }
-            encode::write_header(header, buf);
-            Verdict::Accepted
-        }
+    let (_, aligned) = rules::judge_record(header)?;
+    if has_wrong_facts(header, aligned) {
+        return Err(Rule::WrongRecord.at(0));
     }
+    if buf.len() < 348 {
+        return Err(Rule::ShortBuffer.at(0));
+    }
+    encode::write_header(header, buf);
+    Ok(())
 }

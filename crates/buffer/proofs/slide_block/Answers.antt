@@ -7,6 +7,6 @@ use Rattle.buffer.proofs.slide_block.Goals as goal
 pub returns : goal.returns
 returns c =
     let a = c.args in
-    by_way_of a.buf.now _ _ _ a.from a.to a.n (a.from + a.n - a.from) (a.n - 0) (omega arith) (omega arith) (omega arith)
+    by_way_of a.buf.now _ _ _ a.from a.to a.n (a.from + a.n - a.from) a.n (omega arith) (omega arith) (omega arith)
     c.copy_in.ensures
     c.copy_in-2.ensures

@@ -1,13 +1,10 @@
 -- `slide_up` meets its contract: what was to slide in all is what is left to slide, since a slide upwards is one of its last block and
 -- then one of the others (`up_in_two`).
-use mathlib.Core.Path.{refl, sym, ◌∙◌}
+use mathlib.Core.Path.{◌∙◌}
 use Prim.Native.Nat.{◌-◌}
 use native.Mathlib.Omega.{arith}
 use Rattle.buffer.proofs.Moves.{up_in_two}
 use Rattle.buffer.proofs.slide_up.Goals as goal
-
-pub loop-left-init : goal.loop-left-init
-loop-left-init c = (c.requires.0, c.requires.1, refl, refl)
 
 pub loop-left-preserved : goal.loop-left-preserved
 loop-left-preserved c =
@@ -21,6 +18,3 @@ loop-left-preserved c =
       v.invariant.3
           ∙ up_in_two v.buf _ a.from a.to v.left (v.left - 16384) 16384 (omega arith) (omega arith) (omega arith) moved.ensures,
     )
-
-pub returns : goal.returns
-returns c = c.slide_block-2.ensures ∙ sym c.loop-left.invariant.3

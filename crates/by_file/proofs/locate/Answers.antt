@@ -1,20 +1,20 @@
--- `locate` meets its contract: a file's refusal, and else the answer by its outline.
+-- `locate` meets its contract: a file's refusal, and else the answer by what its voxels are located by.
 use mathlib.Core.Path.{sym, ◌∙◌}
-use Rattle.outline.proofs.Outlines.{hidden_answer, shown_answer}
-use Rattle.voxel.specs.declared.Located.TheVariants.{Unlocated}
-use Rattle.by_file.specs.Files.{located_of}
+use Rattle.by_file.proofs.Shown.{passes, located_is, unlocated}
+use borrow.Author.Rules.{rules}
 use Rattle.by_file.proofs.locate.Goals as goal
 
-pub locate_shown-requires : goal.locate_shown-requires
-locate_shown-requires c = sym c.outline_of-outlined.ensures ∙ c.in-Shown.is
+pub returns-in_err-volume : goal.returns-in_err-volume
+returns-in_err-volume c =
+    let a = c.args in
+    rw (← unlocated a.file.now a.image.now a.index c.in_err-volume.field-0.0 (sym c.volume.ensures ∙ c.in_err-volume.was)) (search rules)
 
-pub returns-in-Hidden : goal.returns-in-Hidden
-unfolding located_of
-returns-in-Hidden c =
-    hidden_answer c.args.file.now 0 _ Unlocated c.in-Hidden.r (sym c.outline_of-outlined.ensures ∙ c.in-Hidden.is)
+pub locate_by-requires : goal.locate_by-requires
+locate_by-requires c =
+    let a = c.args in
+    passes a.file.now a.image.now a.index c.in_ok-volume.field-0 (sym c.volume.ensures ∙ c.in_ok-volume.was)
 
-pub returns-in-Shown : goal.returns-in-Shown
-unfolding located_of
-returns-in-Shown c =
-    c.locate_shown.ensures
-    ∙ shown_answer c.args.file.now 0 _ Unlocated c.in-Shown.outline (sym c.outline_of-outlined.ensures ∙ c.in-Shown.is)
+pub returns : goal.returns
+returns c =
+    let a = c.args in
+    c.locate_by.ensures ∙ located_is a.file.now a.image.now a.index c.in_ok-volume.field-0 (sym c.volume.ensures ∙ c.in_ok-volume.was)

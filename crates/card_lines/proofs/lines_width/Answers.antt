@@ -6,23 +6,9 @@ use Rattle.card_lines.proofs.Texts.{length-next, no_lines}
 use Rattle.card_lines.proofs.lines_width.Goals as goal
 
 pub loop-rank-init : goal.loop-rank-init
-loop-rank-init c = (sym (ap length (no_lines c.args.a)), omega arith, omega arith)
-
-pub overflow_add-k : goal.overflow_add-k
-overflow_add-k c = omega (arith, c.line_width-k.ensures.1)
-
-pub overflow_add-rank : goal.overflow_add-rank
-overflow_add-rank c = omega arith
-
-pub loop-rank-smaller : goal.loop-rank-smaller
-loop-rank-smaller c = omega arith
+loop-rank-init c = (sym (ap length (no_lines c.args.a)), omega arith)
 
 pub loop-rank-preserved : goal.loop-rank-preserved
 loop-rank-preserved c =
     let i = c.loop-rank in
-    (omega (arith, c.line_width-k.ensures.0, i.invariant.0, length-next c.args.a i.rank), omega (arith, c.line_width-k.ensures.1), omega arith)
-
-pub returns : goal.returns
-returns c =
-    let e : c.loop-rank.rank ≡ c.args.n = omega arith in
-    rw (← e) (c.loop-rank.invariant.0, c.loop-rank.invariant.1)
+    (omega (arith, c.line_width-width.ensures.0, i.invariant.0, length-next c.args.a i.rank), omega (arith, c.line_width-width.ensures.1))

@@ -8,18 +8,12 @@ use Rattle.card_lines.proofs.Texts.{length-next, lines_upto, no_lines, next_writ
 use Rattle.card_lines.proofs.put_lines.Goals as goal
 
 pub loop-rank-init : goal.loop-rank-init
-loop-rank-init c = let e = no_lines c.args.a in (sym (ap length e), rw e (sym (put_nil _ 0)), refl, omega arith)
+loop-rank-init c = let e = no_lines c.args.a in (sym (ap length e), rw e (sym (put_nil _ 0)), refl)
 
 pub put_line-at-requires : goal.put_line-at-requires
 put_line-at-requires c =
     let i = c.loop-rank in
     omega (arith, c.requires, i.invariant.0, i.invariant.2, length-next c.args.a i.rank, lines_upto c.args.a (i.rank + 1) c.args.n (omega arith))
-
-pub overflow_add-rank : goal.overflow_add-rank
-overflow_add-rank c = omega arith
-
-pub loop-rank-smaller : goal.loop-rank-smaller
-loop-rank-smaller c = omega arith
 
 pub loop-rank-preserved : goal.loop-rank-preserved
 loop-rank-preserved c =
@@ -28,10 +22,4 @@ loop-rank-preserved c =
       omega (arith, p.ensures.0, i.invariant.0, length-next c.args.a i.rank),
       next_written c.args.a c.args.out.now _ _ i.at i.rank i.invariant.0 i.invariant.1 p.ensures.1,
       p.auto.out ∙ i.invariant.2,
-      omega arith,
     )
-
-pub returns : goal.returns
-returns c =
-    let e : c.loop-rank.rank ≡ c.args.n = omega arith in
-    rw (← e) (c.loop-rank.invariant.0, c.loop-rank.invariant.1)

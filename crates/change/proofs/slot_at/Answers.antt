@@ -9,5 +9,5 @@ pub returns : goal.returns
 returns c =
     let x = c.args.span in
     let same : to_z w32 (of_z w32 x.size) ≡ x.size = search rules in
-    let old : c.bits32.result ≡ of_z w32 x.size = c.bits32.ensures ∙ ap (of_z w32) same in
+    let old : c.cast_unsigned.result ≡ of_z w32 x.size = c.cast_unsigned.ensures ∙ ap (of_z w32) same in
     λ i. record { at = x.start; old = old i }

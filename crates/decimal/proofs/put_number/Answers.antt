@@ -11,14 +11,8 @@ loop-rest-init c = written_none _ _ _ _ (omega arith) (simp length-set (omega ar
 pub overflow_sub-i : goal.overflow_sub-i
 overflow_sub-i c = omega (arith, written_more _ _ _ _ _ _ c.loop-rest.invariant)
 
-pub bounds-out-i : goal.bounds-out-i
-bounds-out-i c = omega (arith, written_more _ _ _ _ _ _ c.loop-rest.invariant, c.loop-rest.invariant.room, c.loop-rest.invariant.same)
-
 pub loop-rest-preserved : goal.loop-rest-preserved
 loop-rest-preserved c = written_next _ _ _ _ _ _ c.loop-rest.invariant _ (omega arith) (omega (arith, written_more _ _ _ _ _ _ c.loop-rest.invariant))
-
-pub bounds-out-at : goal.bounds-out-at
-bounds-out-at c = omega (arith, written_more _ _ _ _ _ _ c.loop-rest.invariant, c.loop-rest.invariant.room, c.loop-rest.invariant.same)
 
 pub returns : goal.returns
 returns c =

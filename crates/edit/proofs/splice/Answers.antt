@@ -10,175 +10,62 @@ use Rattle.offset.specs.Offset.{offset_limit}
 use Rattle.layout.specs.File.{order_of}
 use Rattle.change.specs.Change.{new_size}
 use Rattle.edit_plan.proofs.Planning.{length_new}
-use Rattle.edit_plan.proofs.Deciding.{Allowed, allowed, planned}
-use Rattle.edit.proofs.Splicing.{Carries, carries, Sizes, sizes, spliced}
+use Rattle.edit.proofs.Splicing.{known, spliced}
 use Rattle.edit.proofs.splice.Goals as goal
 
 pub make_room-requires : goal.make_room-requires
 make_room-requires c =
-    let buffer-at = c.args.buf.now in
-    let len-at = c.args.len in
-    let file-at = take len-at buffer-at in
-    let change-at = c.args.change in
-    let code_at = c.args.code in
-    let payload-at = c.args.payload.now in
-    let plan-at = c.args.plan in
-    let allowed_at : Allowed file-at (length buffer-at) change-at code_at payload-at =
-    let n = length buffer-at in
-    allowed file-at n change-at code_at payload-at
-    (planned file-at n change-at code_at payload-at plan-at c.requires.1).0 in
-    let carries-at : Carries file-at change-at code_at payload-at plan-at =
-    carries file-at change-at code_at payload-at plan-at
-    (planned file-at (length buffer-at) change-at code_at payload-at plan-at c.requires.1).1 in
-    let sizes-at : Sizes buffer-at len-at change-at code_at payload-at plan-at =
-    sizes buffer-at len-at change-at code_at payload-at plan-at c.requires.0 allowed_at carries-at in
-    let s = sizes-at in
-    let w = c.greater-whole.ensures in
+    let s = (known c.requires.0 c.requires.1).sizes in
+    let w = c.max-whole.ensures in
     (rw w s.out, (rw w s.inside, rw w s.room))
 
 pub put_new-requires : goal.put_new-requires
 put_new-requires c =
-    let buffer-at = c.args.buf.now in
-    let len-at = c.args.len in
-    let file-at = take len-at buffer-at in
-    let change-at = c.args.change in
-    let code_at = c.args.code in
-    let payload-at = c.args.payload.now in
-    let plan-at = c.args.plan in
-    let allowed_at : Allowed file-at (length buffer-at) change-at code_at payload-at =
-    let n = length buffer-at in
-    allowed file-at n change-at code_at payload-at
-    (planned file-at n change-at code_at payload-at plan-at c.requires.1).0 in
-    let carries-at : Carries file-at change-at code_at payload-at plan-at =
-    carries file-at change-at code_at payload-at plan-at
-    (planned file-at (length buffer-at) change-at code_at payload-at plan-at c.requires.1).1 in
-    let sizes-at : Sizes buffer-at len-at change-at code_at payload-at plan-at =
-    sizes buffer-at len-at change-at code_at payload-at plan-at c.requires.0 allowed_at carries-at in
-    let s = sizes-at in
-    let v = carries-at in
-    let size = new_size change-at (length payload-at) in
-    let n = length_new plan-at.order change-at (to_z w32 (of_z w32 code_at)) payload-at in
-    let o = length_new (order_of file-at) change-at code_at payload-at in
-    let k = c.make_room.auto.buf in
-    let x = v.new_is in
-    let r = s.room in
-    let q = s.out in
-    let y : plan-at.at + size ≤ length buffer-at = omega (arith, x, o, r, q) in
-    let z : plan-at.at + size ≤ offset_limit = omega (arith, x, o, s.new_inside, s.end_limit) in
-    (omega (arith, n, y, k), omega (arith, n, z))
+    let a = c.args in
+    let k = known c.requires.0 c.requires.1 in
+    let n = length_new a.plan.order a.change (to_z w32 (of_z w32 a.code)) a.payload.now in
+    let o = length_new (order_of (take a.len a.buf.now)) a.change a.code a.payload.now in
+    let s = k.sizes in
+    let x = k.carries.new_is in
+    let out = s.out in
+    let room = s.room in
+    let y : a.plan.at + new_size a.change (length a.payload.now) ≤ length a.buf.now = omega (arith, x, o, room, out) in
+    let z : a.plan.at + new_size a.change (length a.payload.now) ≤ offset_limit = omega (arith, x, o, s.new_inside, s.end_limit) in
+    (omega (arith, n, y, c.make_room.auto.buf), omega (arith, n, z))
 
 pub put_extender-requires : goal.put_extender-requires
 put_extender-requires c =
-    let buffer-at = c.args.buf.now in
-    let len-at = c.args.len in
-    let file-at = take len-at buffer-at in
-    let change-at = c.args.change in
-    let code_at = c.args.code in
-    let payload-at = c.args.payload.now in
-    let plan-at = c.args.plan in
-    let allowed_at : Allowed file-at (length buffer-at) change-at code_at payload-at =
-    let n = length buffer-at in
-    allowed file-at n change-at code_at payload-at
-    (planned file-at n change-at code_at payload-at plan-at c.requires.1).0 in
-    let carries-at : Carries file-at change-at code_at payload-at plan-at =
-    carries file-at change-at code_at payload-at plan-at
-    (planned file-at (length buffer-at) change-at code_at payload-at plan-at c.requires.1).1 in
-    let sizes-at : Sizes buffer-at len-at change-at code_at payload-at plan-at =
-    sizes buffer-at len-at change-at code_at payload-at plan-at c.requires.0 allowed_at carries-at in
-    let s = sizes-at.inside in
+    let s = (known c.requires.0 c.requires.1).sizes.inside in
     omega (arith, c.put_new.auto.buf, c.make_room.auto.buf)
 
 pub put_offset-requires : goal.put_offset-requires
 put_offset-requires c =
-    let buffer-at = c.args.buf.now in
-    let len-at = c.args.len in
-    let file-at = take len-at buffer-at in
-    let change-at = c.args.change in
-    let code_at = c.args.code in
-    let payload-at = c.args.payload.now in
-    let plan-at = c.args.plan in
-    let allowed_at : Allowed file-at (length buffer-at) change-at code_at payload-at =
-    let n = length buffer-at in
-    allowed file-at n change-at code_at payload-at
-    (planned file-at n change-at code_at payload-at plan-at c.requires.1).0 in
-    let carries-at : Carries file-at change-at code_at payload-at plan-at =
-    carries file-at change-at code_at payload-at plan-at
-    (planned file-at (length buffer-at) change-at code_at payload-at plan-at c.requires.1).1 in
-    let sizes-at : Sizes buffer-at len-at change-at code_at payload-at plan-at =
-    sizes buffer-at len-at change-at code_at payload-at plan-at c.requires.0 allowed_at carries-at in
-    let s = sizes-at in
-    let i = s.inside in
+    let s = (known c.requires.0 c.requires.1).sizes in
+    let inside = s.inside in
     (omega (arith, c.put_extender.auto.buf, c.put_new.auto.buf, c.make_room.auto.buf), s.end_limit)
 
 pub overflow_sub-result : goal.overflow_sub-result
 overflow_sub-result c =
-    let buffer-at = c.args.buf.now in
-    let len-at = c.args.len in
-    let file-at = take len-at buffer-at in
-    let change-at = c.args.change in
-    let code_at = c.args.code in
-    let payload-at = c.args.payload.now in
-    let plan-at = c.args.plan in
-    let allowed_at : Allowed file-at (length buffer-at) change-at code_at payload-at =
-    let n = length buffer-at in
-    allowed file-at n change-at code_at payload-at
-    (planned file-at n change-at code_at payload-at plan-at c.requires.1).0 in
-    let carries-at : Carries file-at change-at code_at payload-at plan-at =
-    carries file-at change-at code_at payload-at plan-at
-    (planned file-at (length buffer-at) change-at code_at payload-at plan-at c.requires.1).1 in
-    let sizes-at : Sizes buffer-at len-at change-at code_at payload-at plan-at =
-    sizes buffer-at len-at change-at code_at payload-at plan-at c.requires.0 allowed_at carries-at in
-    let s = sizes-at.out in
-    omega (arith, c.greater-whole.ensures)
+    let s = (known c.requires.0 c.requires.1).sizes.out in
+    omega (arith, c.max-whole.ensures)
 
 pub overflow_add-result : goal.overflow_add-result
 overflow_add-result c =
-    let buffer-at = c.args.buf.now in
-    let len-at = c.args.len in
-    let file-at = take len-at buffer-at in
-    let change-at = c.args.change in
-    let code_at = c.args.code in
-    let payload-at = c.args.payload.now in
-    let plan-at = c.args.plan in
-    let allowed_at : Allowed file-at (length buffer-at) change-at code_at payload-at =
-    let n = length buffer-at in
-    allowed file-at n change-at code_at payload-at
-    (planned file-at n change-at code_at payload-at plan-at c.requires.1).0 in
-    let carries-at : Carries file-at change-at code_at payload-at plan-at =
-    carries file-at change-at code_at payload-at plan-at
-    (planned file-at (length buffer-at) change-at code_at payload-at plan-at c.requires.1).1 in
-    let sizes-at : Sizes buffer-at len-at change-at code_at payload-at plan-at =
-    sizes buffer-at len-at change-at code_at payload-at plan-at c.requires.0 allowed_at carries-at in
-    let s = sizes-at in
-    let r = s.room in
-    let o = s.out in
-    let w = c.greater-whole.ensures in
+    let s = (known c.requires.0 c.requires.1).sizes in
+    let room = s.room in
+    let out = s.out in
+    let w = c.max-whole.ensures in
     record { fits = omega arith }
 
 pub returns : goal.returns
 returns c =
-    let buffer-at = c.args.buf.now in
-    let len-at = c.args.len in
-    let file-at = take len-at buffer-at in
-    let change-at = c.args.change in
-    let code_at = c.args.code in
-    let payload-at = c.args.payload.now in
-    let plan-at = c.args.plan in
-    let allowed_at : Allowed file-at (length buffer-at) change-at code_at payload-at =
-    let n = length buffer-at in
-    allowed file-at n change-at code_at payload-at
-    (planned file-at n change-at code_at payload-at plan-at c.requires.1).0 in
-    let carries-at : Carries file-at change-at code_at payload-at plan-at =
-    carries file-at change-at code_at payload-at plan-at
-    (planned file-at (length buffer-at) change-at code_at payload-at plan-at c.requires.1).1 in
-    let sizes-at : Sizes buffer-at len-at change-at code_at payload-at plan-at =
-    sizes buffer-at len-at change-at code_at payload-at plan-at c.requires.0 allowed_at carries-at in
-    let w = c.greater-whole.ensures in
-    let q = to_z-of_z w32 c.args.code c.ranges.code in
+    let a = c.args in
+    let k = known c.requires.0 c.requires.1 in
+    let w = c.max-whole.ensures in
+    let q = to_z-of_z w32 a.code c.ranges.code in
     record {
-      answer = rw w (sym sizes-at.result);
+      answer = rw w (sym k.sizes.result);
       content =
-          spliced buffer-at len-at change-at code_at payload-at plan-at c.requires.0 allowed_at carries-at
-          c.ranges.code c.greater-whole.result c.make_room.new.buf c.put_new.new.buf c.put_extender.new.buf c.put_offset.new.buf w
-          c.make_room.ensures (rw q at c.put_new.ensures) c.put_extender.ensures c.put_offset.ensures;
+          spliced a.buf.now a.len a.change a.code a.payload.now a.plan c.requires.0 k.allowed k.carries
+          c.ranges.code _ _ _ _ _ w c.make_room.ensures (rw q at c.put_new.ensures) c.put_extender.ensures c.put_offset.ensures;
     }

@@ -17,8 +17,8 @@ returns c =
     let a = c.args in
     let size : c.size_for-size.result ≡ size_for (length a.payload.now) = omega (arith, c.size_for-size.ensures, c.requires) in
     let q = to_z-of_z w32 a.code c.ranges.code in
-    let e : c.put_i32.new.buf ≡ sets c.put_u32.new.buf (a.at + 4) (bytes_of a.order 4 (of_z w32 a.code)) =
-    rw q at c.put_i32.ensures in
-    stored_put a.buf.now a.at a.order a.code a.payload.now c.put_u32.new.buf c.put_i32.new.buf c.copy_in.new.buf
-    c.clear.new.buf c.requires.0 c.put_u32.auto.buf (rw size at c.put_u32.ensures) e c.copy_in.ensures
+    let e : c.put-2.new.buf ≡ sets c.put.new.buf (a.at + 4) (bytes_of a.order 4 (of_z w32 a.code)) =
+    rw q at c.put-2.ensures in
+    stored_put a.buf.now a.at a.order a.code a.payload.now c.put.new.buf c.put-2.new.buf c.copy_in.new.buf
+    c.clear.new.buf c.requires.0 c.put.auto.buf (rw size at c.put.ensures) e c.copy_in.ensures
     (rw size at c.clear.ensures)

@@ -13,6 +13,6 @@ returns-in-Single c =
     let a = c.args in
     let w = bytes_of a.order 4 (offset_bits a.end) in
     let b = length-bytes_of a.order 4 (offset_bits a.end) in
-    let e : c.put_u32.new.buf ≡ sets a.buf.now 108 w =
-    rw c.encode.ensures at c.put_u32.ensures in
+    let e : c.put.new.buf ≡ sets a.buf.now 108 w =
+    rw c.encode.ensures at c.put.ensures in
     e ∙ sets-put a.buf.now 108 w (omega arith) ∙ rw c.in-Single.is

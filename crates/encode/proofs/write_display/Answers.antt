@@ -15,13 +15,13 @@ returns c =
     let glmax-same : to_z w32 (of_z w32 g.glmax) ≡ g.glmax = search rules in
     let glmin-same : to_z w32 (of_z w32 g.glmin) ≡ g.glmin = search rules in
     rw (
-      c.put_text24.ensures,
-      c.put_text80.ensures,
-      c.put_i32-2.ensures,
-      c.put_i32.ensures,
-      c.put_u32-4.ensures,
-      c.put_u32-3.ensures,
-      c.put_u32-2.ensures,
-      c.put_u32.ensures,
+      c.put_bytes-2.ensures,
+      c.put_bytes.ensures,
+      c.put-6.ensures,
+      c.put-5.ensures,
+      c.put-4.ensures,
+      c.put-3.ensures,
+      c.put-2.ensures,
+      c.put.ensures,
     )
     (simp (sets_split, length-bytes_of, length-padded, glmax-same, glmin-same))

@@ -17,12 +17,12 @@ returns c =
     let bitpix-same : to_z w16 (of_z w16 g.bitpix) ≡ g.bitpix = search rules in
     let slice-start-same : to_z w16 (of_z w16 g.slice_start) ≡ g.slice_start = search rules in
     rw (
-      c.put_i16-4.ensures,
-      c.put_i16-3.ensures,
-      c.put_i16-2.ensures,
-      c.put_i16.ensures,
-      c.put_u32-3.ensures,
-      c.put_u32-2.ensures,
-      c.put_u32.ensures,
+      c.put-7.ensures,
+      c.put-6.ensures,
+      c.put-5.ensures,
+      c.put-4.ensures,
+      c.put-3.ensures,
+      c.put-2.ensures,
+      c.put.ensures,
     )
     (simp (sets_split, length-bytes_of, intent-code-same, datatype-same, bitpix-same, slice-start-same))

@@ -17,10 +17,10 @@ returns c =
     rw (
       c.put_byte-2.ensures,
       c.put_byte.ensures,
-      c.put_i16.ensures,
-      c.put_i32.ensures,
-      c.put_text18.ensures,
-      c.put_text10.ensures,
+      c.put-2.ensures,
+      c.put.ensures,
+      c.put_bytes-2.ensures,
+      c.put_bytes.ensures,
       c.put_size.ensures,
     )
     (simp (sets_split, length-bytes_of, length-padded, extents-same, session-error-same))

@@ -14,13 +14,13 @@ returns c =
     let qform-code-same : to_z w16 (of_z w16 g.qform_code) ≡ g.qform_code = search rules in
     let sform-code-same : to_z w16 (of_z w16 g.sform_code) ≡ g.sform_code = search rules in
     rw (
-      c.put_u32-6.ensures,
-      c.put_u32-5.ensures,
-      c.put_u32-4.ensures,
-      c.put_u32-3.ensures,
-      c.put_u32-2.ensures,
-      c.put_u32.ensures,
-      c.put_i16-2.ensures,
-      c.put_i16.ensures,
+      c.put-8.ensures,
+      c.put-7.ensures,
+      c.put-6.ensures,
+      c.put-5.ensures,
+      c.put-4.ensures,
+      c.put-3.ensures,
+      c.put-2.ensures,
+      c.put.ensures,
     )
     (simp (sets_split, length-bytes_of, qform-code-same, sform-code-same))

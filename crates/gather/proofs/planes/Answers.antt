@@ -1,5 +1,5 @@
 -- `planes` meets its contract: each turn lays one plane more.
-use mathlib.Core.Path.{◌≡◌, refl, ap, ◌∙◌}
+use mathlib.Core.Path.{refl, ap, ◌∙◌}
 use mathlib.Core.List.{List, [], ◌∷◌}
 use Prim.Native.Nat.{ℕ, ◌+◌, ◌-◌, ◌*◌}
 use native.Mathlib.Nat.{mul-le-mul_left}
@@ -11,21 +11,7 @@ use Rattle.gather.proofs.Laid.{stacked_start, stacked_next}
 use Rattle.gather.proofs.planes.Goals as goal
 
 pub loop-k-init : goal.loop-k-init
-loop-k-init c = (refl, stacked_start _ _ _ _ _ _, omega arith, refl, refl)
-
-pub overflow_mul-lift : goal.overflow_mul-lift
-overflow_mul-lift c =
-    let v = c.loop-k in
-    let a = c.args in
-    let below = mul-le-mul_left {m = v.k} {n = a.z.length - 1} a.lift (omega arith) in
-    omega arith
-
-pub overflow_add-at : goal.overflow_add-at
-overflow_add-at c =
-    let v = c.loop-k in
-    let a = c.args in
-    let below = mul-le-mul_left {m = v.k} {n = a.z.length - 1} a.lift (omega arith) in
-    omega arith
+loop-k-init c = (stacked_start _ _ _ _ _ _, refl, refl)
 
 pub place_of-requires : goal.place_of-requires
 place_of-requires c =
@@ -41,9 +27,9 @@ plane-requires c =
     let whole = c.requires.by_index v.k (omega arith) in
     let below = mul-le-mul_left {m = v.k} {n = a.z.length - 1} a.lift (omega arith) in
     record {
-      b_bound = (c.requires.b_bound.0, omega (arith, v.invariant.4));
+      b_bound = (c.requires.b_bound.0, omega (arith, v.invariant.2));
       inside = rw c.place_of.ensures.0 whole;
-      b_in_bounds = omega (arith, v.invariant.3);
+      b_in_bounds = omega (arith, v.invariant.1);
     }
 
 pub loop-k-preserved : goal.loop-k-preserved
@@ -54,12 +40,5 @@ loop-k-preserved c =
     let row : ℕ → ℕ → List ℕ = λ p j. gathered a.b a.src.now (p + reach a.y j) (a.x ∷ []) in
     let same = ap (λ (p : ℕ). laid (a.at + a.lift * v.k) a.pitch (row p) a.y.length v.out) place in
     let turn = c.plane.ensures ∙ same in
-    let more = stacked_next a.at a.lift a.pitch _ a.y.length v.k a.out.now v.out _ v.invariant.1 turn in
-    (v.invariant.0, more, omega arith, omega (arith, v.invariant.3), omega (arith, v.invariant.4))
-
-pub returns : goal.returns
-returns c =
-    let v = c.loop-k in
-    let a = c.args in
-    let e : v.k ≡ a.z.length = omega arith in
-    rw e at v.invariant.1
+    let more = stacked_next a.at a.lift a.pitch _ a.y.length v.k a.out.now v.out _ v.invariant.0 turn in
+    (more, omega (arith, v.invariant.1), omega (arith, v.invariant.2))

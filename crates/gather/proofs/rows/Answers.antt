@@ -1,5 +1,5 @@
 -- `rows` meets its contract: each turn lays one row more.
-use mathlib.Core.Path.{◌≡◌, refl, ap}
+use mathlib.Core.Path.{refl, ap}
 use mathlib.Core.List.{[], ◌∷◌}
 use Prim.Native.Nat.{ℕ, ◌+◌, ◌-◌}
 use native.Mathlib.Nat.{mul-le-mul_left}
@@ -11,21 +11,7 @@ use Rattle.gather.proofs.Laid.{laid_start, laid_next}
 use Rattle.gather.proofs.rows.Goals as goal
 
 pub loop-j-init : goal.loop-j-init
-loop-j-init c = (refl, laid_start _ _ _ _, omega arith, refl)
-
-pub overflow_mul-pitch : goal.overflow_mul-pitch
-overflow_mul-pitch c =
-    let v = c.loop-j in
-    let a = c.args in
-    let below = mul-le-mul_left {m = v.j} {n = a.y.length - 1} a.pitch (omega arith) in
-    omega arith
-
-pub overflow_add-at : goal.overflow_add-at
-overflow_add-at c =
-    let v = c.loop-j in
-    let a = c.args in
-    let below = mul-le-mul_left {m = v.j} {n = a.y.length - 1} a.pitch (omega arith) in
-    omega arith
+loop-j-init c = (laid_start _ _ _ _, refl)
 
 pub place_of-requires : goal.place_of-requires
 place_of-requires c =
@@ -42,7 +28,7 @@ row-requires c =
     let below = mul-le-mul_left {m = v.j} {n = a.y.length - 1} a.pitch (omega arith) in
     let len = length-row a.b a.src.now (a.from + reach a.y v.j) a.x row in
     let from = c.place_of.ensures.0 in
-    record { b_bound = c.requires.b_bound; inside = rw from row; axis_in_bounds = rw from (omega (arith, v.invariant.3)) }
+    record { b_bound = c.requires.b_bound; inside = rw from row; axis_in_bounds = rw from (omega (arith, v.invariant.1)) }
 
 pub loop-j-preserved : goal.loop-j-preserved
 loop-j-preserved c =
@@ -50,12 +36,5 @@ loop-j-preserved c =
     let a = c.args in
     let place = c.place_of.ensures.0 in
     let same = ap (λ (i : ℕ). gathered a.b a.src.now i (a.x ∷ [])) place in
-    let more = laid_next a.at a.pitch _ v.j _ _ _ _ v.invariant.1 c.row.ensures.0 same in
-    (v.invariant.0, more, omega arith, omega (arith, v.invariant.3))
-
-pub returns : goal.returns
-returns c =
-    let v = c.loop-j in
-    let a = c.args in
-    let e : v.j ≡ a.y.length = omega arith in
-    rw e at v.invariant.1
+    let more = laid_next a.at a.pitch _ v.j _ _ _ _ v.invariant.0 c.row.ensures.0 same in
+    (more, omega (arith, v.invariant.1))

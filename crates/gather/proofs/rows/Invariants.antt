@@ -1,7 +1,7 @@
 -- `rows` meets its contract: each turn lays one row more.
 use mathlib.Core.Path.{◌≡◌}
 use mathlib.Core.List.{[], ◌∷◌}
-use Prim.Native.Nat.{◌+◌, ◌-◌, ◌≤◌}
+use Prim.Native.Nat.{◌+◌}
 use lib.ListN.{length}
 use Rattle.gather_row.specs.Gather.{reach, gathered}
 use Rattle.gather.specs.Rows.{laid}
@@ -9,10 +9,5 @@ use Rattle.gather.proofs.rows.Given as goal
 
 abbrev pub invariant-loop-j : goal.invariant-loop-j
 invariant-loop-j l =
-    (l.n ≡ l.y.length)
-    × (l.out ≡ laid l.at l.pitch (λ q. gathered l.b l.src (l.from + reach l.y q) (l.x ∷ [])) l.j l.initial.out)
-    × (l.j ≤ l.n)
+    (l.out ≡ laid l.at l.pitch (λ q. gathered l.b l.src (l.from + reach l.y q) (l.x ∷ [])) l.j l.initial.out)
     × (length l.out ≡ length l.initial.out)
-
-abbrev pub decreases-loop-j : goal.decreases-loop-j
-decreases-loop-j l = l.n - l.j

@@ -12,9 +12,6 @@ use Rattle.gather_row.proofs.Lines.{part_of, reach_part}
 use Rattle.gather.proofs.Runs.{cut}
 use Rattle.gather.proofs.tiles.Goals as goal
 
-pub nonzero_div-side : goal.nonzero_div-side
-nonzero_div-side c = omega (arith, c.requires.tiled.0.some)
-
 pub loop-j-init : goal.loop-j-init
 loop-j-init c = (refl, refl, laid_start _ _ _ _, omega arith, refl, refl)
 
@@ -22,28 +19,18 @@ pub overflow_mul-low : goal.overflow_mul-low
 overflow_mul-low c =
     let v = c.loop-j in
     let a = c.args in
-    let less = c.lesser-m in
+    let less = c.min-m in
     let f = cut a.b (length a.src.now) a.from a.x a.y v.j less.result c.requires.tiled.0 c.requires.tiled.1.0 c.requires.inside
     (omega arith)
     (omega (arith, less.ensures)) in
     let fit = inside_from _ _ _ _ f.inside in
     omega arith
 
-pub overflow_sub-low : goal.overflow_sub-low
-overflow_sub-low c =
-    let v = c.loop-j in
-    let a = c.args in
-    let less = c.lesser-m in
-    let f = cut a.b (length a.src.now) a.from a.x a.y v.j less.result c.requires.tiled.0 c.requires.tiled.1.0 c.requires.inside
-    (omega arith)
-    (omega (arith, less.ensures)) in
-    omega (arith, f.till)
-
 pub overflow_mul-low-in-loop-j : goal.overflow_mul-low-in-loop-j
 overflow_mul-low-in-loop-j c =
     let v = c.loop-j in
     let a = c.args in
-    let less = c.lesser-m in
+    let less = c.min-m in
     let f = cut a.b (length a.src.now) a.from a.x a.y v.j less.result c.requires.tiled.0 c.requires.tiled.1.0 c.requires.inside
     (omega arith)
     (omega (arith, less.ensures)) in
@@ -54,7 +41,7 @@ pub overflow_add-low : goal.overflow_add-low
 overflow_add-low c =
     let v = c.loop-j in
     let a = c.args in
-    let less = c.lesser-m in
+    let less = c.min-m in
     let f = cut a.b (length a.src.now) a.from a.x a.y v.j less.result c.requires.tiled.0 c.requires.tiled.1.0 c.requires.inside
     (omega arith)
     (omega (arith, less.ensures)) in
@@ -65,32 +52,18 @@ pub overflow_add-low-in-loop-j : goal.overflow_add-low-in-loop-j
 overflow_add-low-in-loop-j c =
     let v = c.loop-j in
     let a = c.args in
-    let less = c.lesser-m in
+    let less = c.min-m in
     let f = cut a.b (length a.src.now) a.from a.x a.y v.j less.result c.requires.tiled.0 c.requires.tiled.1.0 c.requires.inside
     (omega arith)
     (omega (arith, less.ensures)) in
     let fit = inside_from _ _ _ _ f.inside in
     omega arith
 
-pub overflow_mul-pitch : goal.overflow_mul-pitch
-overflow_mul-pitch c =
-    let v = c.loop-j in
-    let a = c.args in
-    let below = mul-le-mul_left {m = v.j} {n = a.y.length - 1} a.pitch (omega arith) in
-    omega arith
-
-pub overflow_add-at : goal.overflow_add-at
-overflow_add-at c =
-    let v = c.loop-j in
-    let a = c.args in
-    let below = mul-le-mul_left {m = v.j} {n = a.y.length - 1} a.pitch (omega arith) in
-    omega arith
-
 pub tile-requires : goal.tile-requires
 tile-requires c =
     let v = c.loop-j in
     let a = c.args in
-    let less = c.lesser-m in
+    let less = c.min-m in
     let f = cut a.b (length a.src.now) a.from a.x a.y v.j less.result c.requires.tiled.0 c.requires.tiled.1.0 c.requires.inside
     (omega arith)
     (omega (arith, less.ensures)) in
@@ -98,31 +71,11 @@ tile-requires c =
     let room = mul-le-mul_left {m = v.j + (m - 1)} {n = a.y.length - 1} a.pitch (omega (arith, f.till, f.some)) in
     record { tiled = (f.tiled, (c.requires.tiled.1.0, (f.line, omega (arith, v.invariant.5)))); inside = f.inside; b_in_bounds = omega (arith, mul-add a.pitch v.j (m - 1), v.invariant.4) }
 
-pub overflow_add-j : goal.overflow_add-j
-overflow_add-j c =
-    let v = c.loop-j in
-    let a = c.args in
-    let less = c.lesser-m in
-    let f = cut a.b (length a.src.now) a.from a.x a.y v.j less.result c.requires.tiled.0 c.requires.tiled.1.0 c.requires.inside
-    (omega arith)
-    (omega (arith, less.ensures)) in
-    omega (arith, f.till)
-
-pub loop-j-smaller : goal.loop-j-smaller
-loop-j-smaller c =
-    let v = c.loop-j in
-    let a = c.args in
-    let less = c.lesser-m in
-    let f = cut a.b (length a.src.now) a.from a.x a.y v.j less.result c.requires.tiled.0 c.requires.tiled.1.0 c.requires.inside
-    (omega arith)
-    (omega (arith, less.ensures)) in
-    omega (arith, f.some, f.till)
-
 pub loop-j-preserved : goal.loop-j-preserved
 loop-j-preserved c =
     let v = c.loop-j in
     let a = c.args in
-    let less = c.lesser-m in
+    let less = c.min-m in
     let f = cut a.b (length a.src.now) a.from a.x a.y v.j less.result c.requires.tiled.0 c.requires.tiled.1.0 c.requires.inside
     (omega arith)
     (omega (arith, less.ensures)) in
@@ -135,10 +88,3 @@ loop-j-preserved c =
     let more = laid_more a.at a.pitch (λ q. gathered a.b a.src.now (a.from + reach a.y q) (a.x ∷ [])) v.j m a.out.now in
     let call = c.tile.ensures in
     (v.invariant.0, v.invariant.1, call ∙ same ∙ rw (more, v.invariant.2), omega (arith, f.till), omega (arith, v.invariant.4), omega (arith, v.invariant.5))
-
-pub returns : goal.returns
-returns c =
-    let v = c.loop-j in
-    let a = c.args in
-    let e : v.j ≡ a.y.length = omega arith in
-    rw e at v.invariant.2

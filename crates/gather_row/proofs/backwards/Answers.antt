@@ -11,9 +11,6 @@ use Rattle.gather_row.proofs.Places.{gathered_snoc, inside_from}
 use Rattle.gather_row.proofs.Lines.{back_of, is_back, cut_back}
 use Rattle.gather_row.proofs.backwards.Goals as goal
 
-pub nonzero_div-side : goal.nonzero_div-side
-nonzero_div-side c = omega (arith, c.requires.le_b.0)
-
 pub loop-j-init : goal.loop-j-init
 loop-j-init c =
     let a = c.args in
@@ -21,24 +18,12 @@ loop-j-init c =
     let whole = gathered_snoc a.b a.src.now a.from [] (back_of a.axis.length a.b) in
     (refl, progress_start a.out.now a.at _ _ (rw (e, whole) at c.requires.axis_in_bounds))
 
-pub overflow_sub-left-in-loop-j : goal.overflow_sub-left-in-loop-j
-overflow_sub-left-in-loop-j c =
-    let v = c.loop-j in
-    let a = c.args in
-    let e = is_back a.axis a.b c.requires.up_value.0 c.requires.up_value.1 in
-    let less = c.lesser-m in
-    let f = cut_back a.b (length a.src.now) a.from a.axis.length v.j less.result c.requires.le_b.0 c.requires.le_b.1
-    (rw e at c.requires.inside)
-    (omega arith)
-    (omega (arith, less.ensures)) in
-    omega (arith, f.till)
-
 pub overflow_mul-b : goal.overflow_mul-b
 overflow_mul-b c =
     let v = c.loop-j in
     let a = c.args in
     let e = is_back a.axis a.b c.requires.up_value.0 c.requires.up_value.1 in
-    let less = c.lesser-m in
+    let less = c.min-m in
     let f = cut_back a.b (length a.src.now) a.from a.axis.length v.j less.result c.requires.le_b.0 c.requires.le_b.1
     (rw e at c.requires.inside)
     (omega arith)
@@ -50,7 +35,7 @@ overflow_add-from c =
     let v = c.loop-j in
     let a = c.args in
     let e = is_back a.axis a.b c.requires.up_value.0 c.requires.up_value.1 in
-    let less = c.lesser-m in
+    let less = c.min-m in
     let f = cut_back a.b (length a.src.now) a.from a.axis.length v.j less.result c.requires.le_b.0 c.requires.le_b.1
     (rw e at c.requires.inside)
     (omega arith)
@@ -62,7 +47,7 @@ line_back-to-requires c =
     let v = c.loop-j in
     let a = c.args in
     let e = is_back a.axis a.b c.requires.up_value.0 c.requires.up_value.1 in
-    let less = c.lesser-m in
+    let less = c.min-m in
     let f = cut_back a.b (length a.src.now) a.from a.axis.length v.j less.result c.requires.le_b.0 c.requires.le_b.1
     (rw e at c.requires.inside)
     (omega arith)
@@ -75,36 +60,12 @@ line_back-to-requires c =
     let room = progress_room_for _ _ _ _ _ _ _ v.invariant.1 m f.till _ part in
     record { b_bound = (omega (arith, c.requires.le_b.1), f.line); up_value = (refl, refl); inside = f.inside; axis_in_bounds = room }
 
-pub overflow_add-j : goal.overflow_add-j
-overflow_add-j c =
-    let v = c.loop-j in
-    let a = c.args in
-    let e = is_back a.axis a.b c.requires.up_value.0 c.requires.up_value.1 in
-    let less = c.lesser-m in
-    let f = cut_back a.b (length a.src.now) a.from a.axis.length v.j less.result c.requires.le_b.0 c.requires.le_b.1
-    (rw e at c.requires.inside)
-    (omega arith)
-    (omega (arith, less.ensures)) in
-    omega (arith, f.till)
-
-pub loop-j-smaller : goal.loop-j-smaller
-loop-j-smaller c =
-    let v = c.loop-j in
-    let a = c.args in
-    let e = is_back a.axis a.b c.requires.up_value.0 c.requires.up_value.1 in
-    let less = c.lesser-m in
-    let f = cut_back a.b (length a.src.now) a.from a.axis.length v.j less.result c.requires.le_b.0 c.requires.le_b.1
-    (rw e at c.requires.inside)
-    (omega arith)
-    (omega (arith, less.ensures)) in
-    omega (arith, f.some, f.till)
-
 pub loop-j-preserved : goal.loop-j-preserved
 loop-j-preserved c =
     let v = c.loop-j in
     let a = c.args in
     let e = is_back a.axis a.b c.requires.up_value.0 c.requires.up_value.1 in
-    let less = c.lesser-m in
+    let less = c.min-m in
     let f = cut_back a.b (length a.src.now) a.from a.axis.length v.j less.result c.requires.le_b.0 c.requires.le_b.1
     (rw e at c.requires.inside)
     (omega arith)

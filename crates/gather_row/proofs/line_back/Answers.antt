@@ -8,13 +8,6 @@ use Rattle.gather_row.proofs.Places.{inside_some}
 use Rattle.gather_row.proofs.Lines.{inside_copy, inside_whole, gathered_copy}
 use Rattle.gather_row.proofs.line_back.Goals as goal
 
-pub overflow_add-end : goal.overflow_add-end
-overflow_add-end c =
-    let a = c.args in
-    let way = downwards c.requires.up_value.0 c.requires.up_value.1 in
-    let whole = inside_whole a.b a.axis way (length a.src.now) a.from c.requires.inside in
-    omega arith
-
 pub one_by_one-requires : goal.one_by_one-requires
 one_by_one-requires c =
     let a = c.args in

@@ -28,7 +28,7 @@ loop-j-init c =
     let some = inside_some a.b (length a.src.now) a.from a.axis c.requires.inside in
     let whole = gathered_snoc a.b a.src.now a.from [] a.axis in
     let start = progress_start a.out.now a.at _ _ (rw whole at c.requires.axis_in_bounds) in
-    (omega arith, omega arith, c.place_of-place.ensures.0, start)
+    (omega arith, c.place_of-place.ensures.0, start)
 
 pub copy_voxel-requires : goal.copy_voxel-requires
 copy_voxel-requires c =
@@ -36,15 +36,8 @@ copy_voxel-requires c =
     let a = c.args in
     let fit = inside_line a.b (length a.src.now) a.from a.axis v.j c.requires.inside (omega arith) in
     let one = length_none a.b a.src.now (a.from + reach a.axis v.j) fit in
-    let room = progress_room _ _ _ _ _ _ _ v.invariant.3 (omega arith) in
-    (c.requires.b_bound, (omega (arith, v.invariant.2), omega arith))
-
-pub overflow_sub-place : goal.overflow_sub-place
-overflow_sub-place c =
-    let v = c.loop-j in
-    let a = c.args in
-    let next = reach_next a.axis v.j (omega arith) in
-    omega (arith, v.invariant.2)
+    let room = progress_room _ _ _ _ _ _ _ v.invariant.2 (omega arith) in
+    (c.requires.b_bound, (omega (arith, v.invariant.1), omega arith))
 
 pub overflow_add-place : goal.overflow_add-place
 overflow_add-place c =
@@ -52,7 +45,7 @@ overflow_add-place c =
     let a = c.args in
     let next = reach_next a.axis v.j (omega arith) in
     let fit = inside_line a.b (length a.src.now) a.from a.axis (v.j + 1) c.requires.inside (omega arith) in
-    omega (arith, v.invariant.2)
+    omega (arith, v.invariant.1)
 
 pub overflow_add-to : goal.overflow_add-to
 overflow_add-to c =
@@ -60,7 +53,7 @@ overflow_add-to c =
     let a = c.args in
     let fit = inside_line a.b (length a.src.now) a.from a.axis v.j c.requires.inside (omega arith) in
     let one = length_none a.b a.src.now (a.from + reach a.axis v.j) fit in
-    let room = progress_room _ _ _ _ _ _ _ v.invariant.3 (omega arith) in
+    let room = progress_room _ _ _ _ _ _ _ v.invariant.2 (omega arith) in
     omega arith
 
 pub loop-j-preserved : goal.loop-j-preserved
@@ -70,11 +63,11 @@ loop-j-preserved c =
     let next = reach_next a.axis v.j (omega arith) in
     let fit = inside_line a.b (length a.src.now) a.from a.axis v.j c.requires.inside (omega arith) in
     let one = length_none a.b a.src.now (a.from + reach a.axis v.j) fit in
-    let place = ap (λ (i : ℕ). take a.b (drop i a.src.now)) v.invariant.2 in
+    let place = ap (λ (i : ℕ). take a.b (drop i a.src.now)) v.invariant.1 in
     let part = place ∙ sym (gathered_none a.b a.src.now (a.from + reach a.axis v.j)) in
     let call = c.copy_voxel.ensures in
-    let more = progress_next _ _ _ _ _ _ _ v.invariant.3 (omega arith) _ _ (v.to + a.b) call part (omega arith) in
-    (v.invariant.0, omega arith, omega (arith, v.invariant.2), more)
+    let more = progress_next _ _ _ _ _ _ _ v.invariant.2 (omega arith) _ _ (v.to + a.b) call part (omega arith) in
+    (v.invariant.0, omega (arith, v.invariant.1), more)
 
 pub copy_voxel-requires-2 : goal.copy_voxel-requires-2
 copy_voxel-requires-2 c =
@@ -82,8 +75,8 @@ copy_voxel-requires-2 c =
     let a = c.args in
     let fit = inside_line a.b (length a.src.now) a.from a.axis v.j c.requires.inside (omega arith) in
     let one = length_none a.b a.src.now (a.from + reach a.axis v.j) fit in
-    let room = progress_room _ _ _ _ _ _ _ v.invariant.3 (omega arith) in
-    (c.requires.b_bound, (omega (arith, v.invariant.2), omega arith))
+    let room = progress_room _ _ _ _ _ _ _ v.invariant.2 (omega arith) in
+    (c.requires.b_bound, (omega (arith, v.invariant.1), omega arith))
 
 pub overflow_add-result : goal.overflow_add-result
 overflow_add-result c =
@@ -91,7 +84,7 @@ overflow_add-result c =
     let a = c.args in
     let fit = inside_line a.b (length a.src.now) a.from a.axis v.j c.requires.inside (omega arith) in
     let one = length_none a.b a.src.now (a.from + reach a.axis v.j) fit in
-    let room = progress_room _ _ _ _ _ _ _ v.invariant.3 (omega arith) in
+    let room = progress_room _ _ _ _ _ _ _ v.invariant.2 (omega arith) in
     omega arith
 
 pub returns : goal.returns
@@ -100,8 +93,8 @@ returns c =
     let a = c.args in
     let fit = inside_line a.b (length a.src.now) a.from a.axis v.j c.requires.inside (omega arith) in
     let one = length_none a.b a.src.now (a.from + reach a.axis v.j) fit in
-    let place = ap (λ (i : ℕ). take a.b (drop i a.src.now)) v.invariant.2 in
+    let place = ap (λ (i : ℕ). take a.b (drop i a.src.now)) v.invariant.1 in
     let part = place ∙ sym (gathered_none a.b a.src.now (a.from + reach a.axis v.j)) in
     let call = c.copy_voxel-2.ensures in
-    let all = progress_next _ _ _ _ _ _ _ v.invariant.3 (omega arith) _ _ (v.to + a.b) call part (omega arith) in
+    let all = progress_next _ _ _ _ _ _ _ v.invariant.2 (omega arith) _ _ (v.to + a.b) call part (omega arith) in
     rw (gathered_snoc a.b a.src.now a.from [] a.axis) (progress_done _ _ _ _ _ _ _ all (omega arith))

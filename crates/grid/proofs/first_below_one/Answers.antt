@@ -13,7 +13,7 @@ use Rattle.grid.proofs.first_below_one.Goals as goal
 
 pub loop-i-init : goal.loop-i-init
 unfolding first_below
-loop-i-init c = (omega arith, refl)
+loop-i-init c = refl
 
 pub returns-then-axis_length-lt1 : goal.returns-then-axis_length-lt1
 returns-then-axis_length-lt1 c =
@@ -22,7 +22,7 @@ returns-then-axis_length-lt1 c =
     let e = rw add-one at c.axis_length.ensures.0 in
     let d = dim_at dim (suc i) in
     let here : below_one d ≡ true = below_natural d ∙ lt-ltb (natural_of d) 1 (omega arith) in
-    add-one i ∙ sym (first_stays dim (suc i) c.args.n i (omega arith) (first_found dim i c.loop-i.invariant.1 here))
+    add-one i ∙ sym (first_stays dim (suc i) c.args.n i (omega arith) (first_found dim i c.loop-i.invariant here))
 
 pub loop-i-preserved : goal.loop-i-preserved
 loop-i-preserved c =
@@ -31,9 +31,4 @@ loop-i-preserved c =
     let e = rw add-one at c.axis_length.ensures.0 in
     let d = dim_at dim (suc i) in
     let here : below_one d ≡ false = below_natural d ∙ le-ltb (natural_of d) 1 (omega arith) in
-    (omega arith, rw add-one (first_passed dim i c.loop-i.invariant.1 here))
-
-pub returns : goal.returns
-returns c =
-    let end : c.loop-i.i ≡ c.args.n = omega arith in
-    sym (rw end at c.loop-i.invariant.1)
+    rw add-one (first_passed dim i c.loop-i.invariant here)

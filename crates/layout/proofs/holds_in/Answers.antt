@@ -7,5 +7,5 @@ use Rattle.layout.proofs.holds_in.Goals as goal
 pub returns : goal.returns
 unfolding holds_in
 returns c =
-    let n = c.read_i16-n in
+    let n = c.read-n in
     rw (to_z-of_z w16 n.result (record { sfits = n.type_inv }), n.ensures)

@@ -11,7 +11,7 @@ returns c =
     λ i. record {
       kind = c.args.kind;
       dim = c.dims.ensures i;
-      datatype = (to_z-of_z w16 c.read_i16.result (record { sfits = c.read_i16.type_inv }) ∙ c.read_i16.ensures) i;
-      bitpix = (to_z-of_z w16 c.read_i16-2.result (record { sfits = c.read_i16-2.type_inv }) ∙ c.read_i16-2.ensures) i;
-      vox_offset = c.read_u32.ensures i;
+      datatype = (to_z-of_z w16 c.read.result (record { sfits = c.read.type_inv }) ∙ c.read.ensures) i;
+      bitpix = (to_z-of_z w16 c.read-2.result (record { sfits = c.read-2.type_inv }) ∙ c.read-2.ensures) i;
+      vox_offset = c.read-3.ensures i;
     }

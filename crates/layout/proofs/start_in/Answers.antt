@@ -1,5 +1,6 @@
 -- `start_in` meets its contract: rules 1 and 2, and rules 3 and 4 in the order in which rule 2 passes.
-use mathlib.Core.Path.{sym, ◌∙◌}
+use Rattle.std.specs.Prelude.{Err}
+use mathlib.Core.Path.{sym, ◌∙◌, ap}
 use native.Mathlib.Omega.{arith}
 use Rattle.layout.specs.File.{order_of}
 use Rattle.layout.proofs.Starting.{starts_1, starts_2}
@@ -9,7 +10,7 @@ pub returns-then-len-lt348 : goal.returns-then-len-lt348
 returns-then-len-lt348 c =
     let bytes = c.args.file.now in
     let size = c.args.len in
-    c.unread.ensures ∙ starts_1 bytes size c.if-len-lt348.true
+    ap Err c.at.ensures ∙ starts_1 bytes size c.if-len-lt348.true
 
 pub start_by-requires : goal.start_by-requires
 unfolding order_of
@@ -39,4 +40,4 @@ returns c =
     let bytes = c.args.file.now in
     let size = c.args.len in
     let other = sym c.holds_in.ensures ∙ c.if-holds_in.false in
-    c.unread-2.ensures ∙ starts_2 bytes size (omega arith) (rw other (sym c.holds_in-2.ensures ∙ c.if-holds_in-2.false))
+    ap Err c.at-2.ensures ∙ starts_2 bytes size (omega arith) (rw other (sym c.holds_in-2.ensures ∙ c.if-holds_in-2.false))

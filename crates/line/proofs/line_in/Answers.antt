@@ -3,15 +3,13 @@ use mathlib.Core.Path.{sym, ◌∙◌}
 use Rattle.line.proofs.Calls.{record_refused, record_copies}
 use Rattle.line.proofs.line_in.Goals as goal
 
-pub returns-in-Refused : goal.returns-in-Refused
-returns-in-Refused c =
+pub returns-in-Err : goal.returns-in-Err
+returns-in-Err g c =
     let a = c.args in
-    rw (← c.misplaced.ensures) at (record_refused a.header a.file.now a.image.now a.axis a.index a.out.now c.in-Refused.r
-    (sym c.decode-offset.ensures ∙ c.in-Refused.is))
+    rw c.misplaced.ensures (record_refused a.header a.file.now a.image.now a.axis a.index a.out.now c.in-Err.r (sym c.decode.ensures ∙ c.in-Err.is))
 
-pub returns-in_default : goal.returns-in_default
-returns-in_default c =
+pub returns-in-Ok : goal.returns-in-Ok
+returns-in-Ok g c =
     let a = c.args in
-    record_copies a.header a.file.now a.image.now a.axis a.index a.out.now c.decode-offset.result (sym c.decode-offset.ensures)
-    c.in_default.not-Refused _ _
-    (rw c.whole_in.ensures at c.line_at.ensures)
+    record_copies a.header a.file.now a.image.now a.axis a.index a.out.now c.in-Ok.offset (sym c.decode.ensures ∙ c.in-Ok.is) _ _
+    (rw c.whole.ensures at c.line_at.ensures)

@@ -1,12 +1,8 @@
 -- Each piece that is taken is not empty, and counts.
-use Rattle.std.proofs.Common.{sym, ap, ◌∙◌, arith}
-use Rattle.pieces.specs.declared.Taken.{Taken}
+use Rattle.std.proofs.Common.{sym, ◌∙◌, arith}
 use Rattle.pieces.proofs.Theorems.{accepted_taken}
 use Rattle.piece_input.proofs.read_input.Goals as goal
 
-pub loop-n-smaller : goal.loop-n-smaller
-loop-n-smaller g c =
-    let e = c.take-taken.ensures in
-    let a = accepted_taken _ _ (sym (ap (λ (t : Taken). t.verdict) e) ∙ c.in-Accepted.is) in
-    let n = ap (λ (t : Taken). t.pieces.taken) e in
-    grind (arith, a, n, c.if-n-eq0)
+pub loop-input-smaller : goal.loop-input-smaller
+loop-input-smaller g c =
+    grind (arith, accepted_taken _ _ (sym c.take.ensures.answer ∙ c.in_default.is), c.take.ensures.state, c.if-n-eq0)

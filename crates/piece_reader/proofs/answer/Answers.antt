@@ -8,23 +8,25 @@ use Rattle.piece_reader.specs.Answer.{answer_of}
 use borrow.Author.Rules.{rules}
 use Rattle.piece_reader.proofs.answer.Goals as goal
 
-pub outline_in-outlined-requires : goal.outline_in-outlined-requires
-outline_in-outlined-requires c = (search rules, λ e. absurd (false≢true e))
+pub outline_in-requires : goal.outline_in-requires
+outline_in-requires c = (search rules, λ e. absurd (false≢true e))
 
 pub listed-requires : goal.listed-requires
 listed-requires c =
     let s = c.args.pieces in
-    let fits = checked_shown (checked_in s.front s.taken) _ (sym c.outline_in-outlined.ensures ∙ c.in-Shown.is) in
+    let fits = checked_shown (checked_in s.front s.taken) _ (sym c.outline_in.ensures ∙ c.in-Ok.is) in
     record { in_bounds = search rules; measured = checked_measured s.front s.taken _ fits; front_value = checked_aligned s.front s.taken _ fits }
 
-pub returns-in-Hidden : goal.returns-in-Hidden
+pub returns-in-Err : goal.returns-in-Err
 unfolding answer_of
-returns-in-Hidden c =
+returns-in-Err c =
     let s = c.args.pieces in
-    rw (checked_hidden (checked_in s.front s.taken) _ (sym c.outline_in-outlined.ensures ∙ c.in-Hidden.is)) c.refused.ensures
+    let e = checked_hidden (checked_in s.front s.taken) _ (sym c.outline_in.ensures ∙ c.in-Err.is) in
+    search rules
 
-pub returns-in-Shown : goal.returns-in-Shown
+pub returns-in-Ok : goal.returns-in-Ok
 unfolding answer_of
-returns-in-Shown c =
+returns-in-Ok c =
     let s = c.args.pieces in
-    rw (checked_shown (checked_in s.front s.taken) _ (sym c.outline_in-outlined.ensures ∙ c.in-Shown.is)) c.listed.ensures
+    let e = checked_shown (checked_in s.front s.taken) _ (sym c.outline_in.ensures ∙ c.in-Ok.is) in
+    search rules

@@ -1,5 +1,5 @@
 -- `spans_in` meets its contract: so far the spans are those of the marks so far, and the next one starts where they end.
-use Prim.Native.Nat.{◌+◌, ◌-◌, ◌*◌, ◌≤◌}
+use Prim.Native.Nat.{◌+◌, ◌*◌, ◌≤◌}
 use mathlib.Core.Path.{◌≡◌}
 use lib.ListN.{take}
 use Rattle.extension.specs.Walk.{first_place}
@@ -9,8 +9,5 @@ use Rattle.piece_reader.proofs.spans_in.Given as goal
 
 abbrev pub invariant-loop-i : goal.invariant-loop-i
 invariant-loop-i l =
-    (l.i ≤ l.count) × (l.spans ≡ spans_of (spans_by first_place (take l.i l.marks))) × (l.start ≡ place_by first_place (take l.i l.marks))
+    (l.spans ≡ spans_of (spans_by first_place (take l.i l.marks))) × (l.start ≡ place_by first_place (take l.i l.marks))
     × (l.start ≤ first_place + l.i * 2147483647)
-
-abbrev pub decreases-loop-i : goal.decreases-loop-i
-decreases-loop-i l = l.count - l.i

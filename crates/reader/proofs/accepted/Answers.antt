@@ -1,6 +1,6 @@
 -- `accepted` meets its contract: the record of the file's bytes, with its sizes and what was read of its offset.
+use Rattle.refusal.specs.Table.{no_refusal}
 use mathlib.Core.Path.{ap, ◌∙◌}
-use Rattle.refusal.specs.declared.Verdict.TheVariants.{Accepted}
 use Rattle.header.specs.Fields.{header_of}
 use Rattle.rules.specs.Rules.{completed}
 use Rattle.layout.specs.File.{shape_in}
@@ -15,4 +15,4 @@ pub returns : goal.returns
 returns c =
     let a = c.args in
     let header = c.complete.ensures ∙ ap completed c.parse.ensures in
-    λ i. record { verdict = Accepted; header = header i; image = a.layout.image }
+    λ i. record { verdict = no_refusal; header = header i; image = a.layout.image }

@@ -12,5 +12,5 @@ pub returns : goal.returns
 returns c =
     let h = c.args.header in
     let same : to_z w16 (of_z w16 h.intent.bitpix) ≡ h.intent.bitpix = search rules in
-    let sizes = rw same at c.sizes_in-out.ensures ∙ measured_sizes (shape_of_record h) c.requires.measured in
+    let sizes = rw same at c.sizes_in.ensures ∙ measured_sizes (shape_of_record h) c.requires.measured in
     λ i. with_facts (sizes i) (sym c.requires.header_value i) h

@@ -4,8 +4,8 @@ use Rattle.reader.proofs.Answers.{reads_broken}
 use Rattle.reader.proofs.read.Goals as goal
 
 pub read_list-requires : goal.read_list-requires
-read_list-requires c = sym c.check-checked.ensures ∙ c.in-Fits.is
+read_list-requires c = sym c.check.ensures ∙ c.in-Ok.is
 
-pub returns-in-Breaks : goal.returns-in-Breaks
-returns-in-Breaks c =
-    c.refused.ensures ∙ reads_broken c.args.file.now c.in-Breaks.r (sym c.check-checked.ensures ∙ c.in-Breaks.is)
+pub returns-in-Err : goal.returns-in-Err
+returns-in-Err c =
+    c.refused.ensures ∙ reads_broken c.args.file.now c.in-Err.r (sym c.check.ensures ∙ c.in-Err.is)

@@ -10,12 +10,12 @@ accepted-requires c =
     let s = c.args.file.now in
     record { measured = checked_measured s (length s) c.args.layout c.requires; file_value = checked_aligned s (length s) c.args.layout c.requires }
 
-pub returns-in-Refused : goal.returns-in-Refused
-returns-in-Refused c =
+pub returns-in-Err : goal.returns-in-Err
+returns-in-Err c =
     c.refused.ensures
-    ∙ reads_refused c.args.file.now c.args.layout c.requires c.list_in-listing.result c.list_in-listing.ensures c.in-Refused.r c.in-Refused.is
+    ∙ reads_refused c.args.file.now c.args.layout c.requires c.list_in-listing.result c.list_in-listing.ensures c.in-Err.r c.in-Err.is
 
-pub returns-in-Accepted : goal.returns-in-Accepted
-returns-in-Accepted c =
+pub returns-in-Ok : goal.returns-in-Ok
+returns-in-Ok c =
     c.accepted.ensures
-    ∙ reads_accepted c.args.file.now c.args.layout c.requires c.list_in-listing.result c.list_in-listing.ensures c.in-Accepted.is
+    ∙ reads_accepted c.args.file.now c.args.layout c.requires c.list_in-listing.result c.list_in-listing.ensures c.in-Ok.is

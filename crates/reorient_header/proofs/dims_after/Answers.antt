@@ -4,12 +4,11 @@ use mathlib.Core.List.{◌∷◌}
 use native.Mathlib.Omega.{arith}
 use lib.ListN.{get_or}
 use lib.IntN.{ℤ, pos}
-use Prim.Native.Nat.{◌≤◌, ◌<◌, ◌^◌}
+use Prim.Native.Nat.{◌<◌, ◌^◌}
 use lib.Signed.{mag}
 use mir.Syntax.{w16}
 use mir.Val.{hbits, to_z, of_z}
 use mir.ValLaws.{to_z-of_z}
-use Rattle.reorient.proofs.Axes.{bounds}
 use Rattle.reorient_header.specs.After.{entries_after}
 use Rattle.reorient_header.proofs.Made.{entries}
 use Rattle.reorient_header.proofs.dims_after.Goals as goal
@@ -17,36 +16,6 @@ use Rattle.reorient_header.proofs.dims_after.Goals as goal
 -- a number of an array of signed numbers fits its width
 same : (z : ℤ) → mag z < 2 ^ hbits w16 → to_z w16 (of_z w16 z) ≡ z
 same z h = to_z-of_z w16 z (record { sfits = h })
-
-pub offset_bounds-dim-i : goal.offset_bounds-dim-i
-offset_bounds-dim-i c =
-    let small : let t = c.args.t in (t.axis1 ≤ 3) × (t.axis2 ≤ 3) × (t.axis3 ≤ 3) = let h = bounds c.args.t c.requires in (h.high1, h.high2, h.high3) in
-    omega (arith, small.0)
-
-pub bounds-dim-i : goal.bounds-dim-i
-bounds-dim-i c =
-    let small : let t = c.args.t in (t.axis1 ≤ 3) × (t.axis2 ≤ 3) × (t.axis3 ≤ 3) = let h = bounds c.args.t c.requires in (h.high1, h.high2, h.high3) in
-    omega (arith, small.0)
-
-pub offset_bounds-dim-j : goal.offset_bounds-dim-j
-offset_bounds-dim-j c =
-    let small : let t = c.args.t in (t.axis1 ≤ 3) × (t.axis2 ≤ 3) × (t.axis3 ≤ 3) = let h = bounds c.args.t c.requires in (h.high1, h.high2, h.high3) in
-    omega (arith, small.1)
-
-pub bounds-dim-j : goal.bounds-dim-j
-bounds-dim-j c =
-    let small : let t = c.args.t in (t.axis1 ≤ 3) × (t.axis2 ≤ 3) × (t.axis3 ≤ 3) = let h = bounds c.args.t c.requires in (h.high1, h.high2, h.high3) in
-    omega (arith, small.1)
-
-pub offset_bounds-dim-k : goal.offset_bounds-dim-k
-offset_bounds-dim-k c =
-    let small : let t = c.args.t in (t.axis1 ≤ 3) × (t.axis2 ≤ 3) × (t.axis3 ≤ 3) = let h = bounds c.args.t c.requires in (h.high1, h.high2, h.high3) in
-    omega (arith, small.2)
-
-pub bounds-dim-k : goal.bounds-dim-k
-bounds-dim-k c =
-    let small : let t = c.args.t in (t.axis1 ≤ 3) × (t.axis2 ≤ 3) × (t.axis3 ≤ 3) = let h = bounds c.args.t c.requires in (h.high1, h.high2, h.high3) in
-    omega (arith, small.2)
 
 pub returns : goal.returns
 unfolding entries_after

@@ -10,22 +10,22 @@ use Rattle.reorient_header.specs.After.{sform_after}
 use Rattle.reorient_header.proofs.Made.{sform_finite}
 use Rattle.reorient_header.proofs.sform_after.Goals as goal
 
-pub returns-then-quatern-le0 : goal.returns-then-quatern-le0
+pub returns-then-header-le0 : goal.returns-then-header-le0
 unfolding sform_after
-returns-then-quatern-le0 c =
+returns-then-header-le0 c =
     let code_same : let z = c.args.header.quatern.sform_code in to_z w16 (of_z w16 z) ≡ z = search rules in
-    let unset : le_z c.args.header.quatern.sform_code (pos 0) ≡ true = (λ i. le_z (sym code_same i) (pos 0)) ∙ c.if-quatern-le0.true in
+    let unset : le_z c.args.header.quatern.sform_code (pos 0) ≡ true = (λ i. le_z (sym code_same i) (pos 0)) ∙ c.if-header-le0.true in
     rw unset
 
 pub rows_after-requires : goal.rows_after-requires
 rows_after-requires c =
     let code_same : let z = c.args.header.quatern.sform_code in to_z w16 (of_z w16 z) ≡ z = search rules in
-    let above : le_z c.args.header.quatern.sform_code (pos 0) ≡ false = (λ i. le_z (sym code_same i) (pos 0)) ∙ c.if-quatern-le0.false in
+    let above : le_z c.args.header.quatern.sform_code (pos 0) ≡ false = (λ i. le_z (sym code_same i) (pos 0)) ∙ c.if-header-le0.false in
     record { t_value = c.requires.t_value; rows_value = sform_finite _ _ above c.requires.header_value }
 
 pub returns : goal.returns
 unfolding sform_after
 returns c =
     let code_same : let z = c.args.header.quatern.sform_code in to_z w16 (of_z w16 z) ≡ z = search rules in
-    let above : le_z c.args.header.quatern.sform_code (pos 0) ≡ false = (λ i. le_z (sym code_same i) (pos 0)) ∙ c.if-quatern-le0.false in
+    let above : le_z c.args.header.quatern.sform_code (pos 0) ≡ false = (λ i. le_z (sym code_same i) (pos 0)) ∙ c.if-header-le0.false in
     rw above c.rows_after.ensures

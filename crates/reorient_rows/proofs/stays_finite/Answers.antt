@@ -4,12 +4,9 @@ use Rattle.reorient_rows.specs.Rows.{are_finite, finite_after}
 use Rattle.reorient_rows.proofs.Laws.{never_finite}
 use Rattle.reorient_rows.proofs.stays_finite.Goals as goal
 
-pub numbers_of-requires : goal.numbers_of-requires
-numbers_of-requires c = record { t_value = c.requires; row_value = sym c.row_is_finite.ensures ∙ c.if-row_is_finite.true }
-
 pub returns-then-row_is_finite : goal.returns-then-row_is_finite
 unfolding finite_after
 returns-then-row_is_finite c = c.are_finite.ensures ∙ ap are_finite c.numbers_of.ensures
 
-pub returns : goal.returns
-returns c = sym (never_finite _ _ _ _ _ c.requires (sym c.row_is_finite.ensures ∙ c.if-row_is_finite.false))
+pub returns-else-row_is_finite : goal.returns-else-row_is_finite
+returns-else-row_is_finite c = c.if-row_is_finite.false ∙ sym (never_finite _ _ _ _ _ c.requires (sym c.row_is_finite.ensures ∙ c.if-row_is_finite.false))

@@ -1,6 +1,7 @@
 -- `judge` meets its contract: rule 5 by the first entry below 1, which is at most dim[0], and rule 6 by the datatype's table.
+use Rattle.std.specs.Prelude.{Err}
 use Prim.Native.Nat.{◌≤◌}
-use mathlib.Core.Path.{◌≡◌, sym, ◌∙◌}
+use mathlib.Core.Path.{◌≡◌, sym, ◌∙◌, ap}
 use native.Mathlib.Omega.{arith}
 use mir.Syntax.{w16}
 use mir.Val.{to_z, of_z}
@@ -26,7 +27,7 @@ overflow_add-bad c =
 pub returns-then-bad-gt0 : goal.returns-then-bad-gt0
 returns-then-bad-gt0 c =
     let bad-is : c.first_below_one-bad.result ≡ first_bad c.args.shape = c.first_below_one-bad.ensures ∙ rw c.axis_count.ensures.0 in
-    c.failed.ensures ∙ (rw bad-is (judged_5 c.args.shape c.args.len (rw bad-is at c.if-bad-gt0.true)))
+    ap Err c.at.ensures ∙ (rw bad-is (judged_5 c.args.shape c.args.len (rw bad-is at c.if-bad-gt0.true)))
 
 pub judge_format-requires : goal.judge_format-requires
 judge_format-requires c =
@@ -35,15 +36,15 @@ judge_format-requires c =
     let code_same : to_z w16 (of_z w16 code) ≡ code = search rules in
     let none : c.first_below_one-bad.result ≡ 0 = omega arith in (
       sym bad-is ∙ none,
-      rw code_same at (sym c.datatype_of-datatype.ensures ∙ c.in-Known.is),
+      rw code_same at (sym c.datatype_of-datatype.ensures ∙ c.in-Some.is),
     )
 
-pub returns-in-Unknown : goal.returns-in-Unknown
-returns-in-Unknown c =
+pub returns-in-None : goal.returns-in-None
+returns-in-None c =
     let bad-is : c.first_below_one-bad.result ≡ first_bad c.args.shape = c.first_below_one-bad.ensures ∙ rw c.axis_count.ensures.0 in
     let code = c.args.shape.datatype in
     let code_same : to_z w16 (of_z w16 code) ≡ code = search rules in
     let none : c.first_below_one-bad.result ≡ 0 = omega arith in
-    c.failed-in-Unknown.ensures
+    ap Err c.at-in-None.ensures
     ∙ judged_6 c.args.shape c.args.len (sym bad-is ∙ none)
-    (rw code_same at (sym c.datatype_of-datatype.ensures ∙ c.in-Unknown.is))
+    (rw code_same at (sym c.datatype_of-datatype.ensures ∙ c.in-None.is))

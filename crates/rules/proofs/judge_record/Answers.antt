@@ -1,4 +1,5 @@
 -- `judge_record` meets its contract: rule 2 by the number of axes, and then the rules of the fields.
+use Rattle.std.specs.Prelude.{Err}
 use Prim.Native.Nat.{ℕ}
 use mathlib.Core.Path.{◌≡◌, ap, ◌∙◌}
 use mathlib.Core.Bool.{true, false}
@@ -17,7 +18,7 @@ returns-then-n-lt1 c =
     let few : one_to_seven (dim_at record-in.dim 0) ≡ false =
     let d = record-in.dim in
     seven_natural (dim_at d 0) ∙ rw (lt-leb 1 (axis_count d) (omega (arith, count-is))) in
-    c.failed.ensures ∙ record_2 record-in few
+    ap Err c.at.ensures ∙ record_2 record-in few
 
 pub returns-then-n-gt7 : goal.returns-then-n-gt7
 returns-then-n-gt7 c =
@@ -28,7 +29,7 @@ returns-then-n-gt7 c =
     let n : ℕ = axis_count d in
     let e = count-is in
     seven_natural (dim_at d 0) ∙ rw (le-leb 1 n (omega arith), lt-leb n 7 (omega arith)) in
-    c.failed-then-n-gt7.ensures ∙ record_2 record-in many
+    ap Err c.at-then-n-gt7.ensures ∙ record_2 record-in many
 
 pub returns : goal.returns
 returns c =

@@ -21,12 +21,6 @@ use Rattle.sizes.proofs.bytes_before.Goals as goal
 more : (k sum p : ℕ) → sum ≤ k * (32767 * (image_limit + 1)) → p ≤ 32767 * (image_limit + 1) → sum + p ≤ (k + 1) * (32767 * (image_limit + 1))
 more k sum p h g = omega arith
 
-pub loop-k-init : goal.loop-k-init
-loop-k-init c = (omega arith, omega arith, refl, omega arith)
-
-pub length_after-requires : goal.length_after-requires
-length_after-requires c = omega (arith, c.requires.2)
-
 pub returns-then-length_after-i : goal.returns-then-length_after-i
 returns-then-length_after-i c =
     let next : let a = c.args in let k = c.loop-k.k in let l = seven_axes a.dim.now a.n in within l a.index.now ≡ (ltb (get_or a.index.now k 0) c.length_after.result && within (drop (k + 1) l) (drop (k + 1) a.index.now)) =
@@ -34,36 +28,12 @@ returns-then-length_after-i c =
     let l = seven_axes a.dim.now a.n in
     let seven = seven_length a.dim.now a.n c.requires.0 in
     let few = c.requires.2 in
-    c.loop-k.invariant.2
+    c.loop-k.invariant.1
     ∙ within_next l a.index.now c.loop-k.k (omega arith) (omega arith)
     ∙ rw (← c.length_after.ensures.0) in
     let a = c.args in
     let out : within (seven_axes a.dim.now a.n) a.index.now ≡ false = rw (next, le-ltb _ _ c.if-length_after-i.true) in
     record { outside = λ _. refl; inside = λ w. absurd (false≢true (sym out ∙ w)); small = λ w. absurd (false≢true (sym out ∙ w)) }
-
-pub bounds-steps-k : goal.bounds-steps-k
-bounds-steps-k c = omega (arith, c.requires.1, c.requires.2)
-
-pub overflow_mul-sum : goal.overflow_mul-sum
-overflow_mul-sum c =
-    let product : let a = c.args in get_or a.index.now c.loop-k.k 0 * c.limited.result ≤ 32767 * (image_limit + 1) =
-    let e = c.limited.ensures in
-    let i = c.if-length_after-i.false in
-    mul-le-mul {n₂ = 32767} {m₂ = image_limit + 1} (omega (arith, c.length_after.ensures.1)) (omega arith) in
-    record { fits = omega (arith, product) }
-
-pub overflow_add-sum : goal.overflow_add-sum
-overflow_add-sum c =
-    let product : let a = c.args in get_or a.index.now c.loop-k.k 0 * c.limited.result ≤ 32767 * (image_limit + 1) =
-    let e = c.limited.ensures in
-    let i = c.if-length_after-i.false in
-    mul-le-mul {n₂ = 32767} {m₂ = image_limit + 1} (omega (arith, c.length_after.ensures.1)) (omega arith) in
-    record { fits = omega (arith, product) }
-
-pub loop-k-smaller : goal.loop-k-smaller
-loop-k-smaller c =
-    let few = c.requires.2 in
-    omega arith
 
 pub loop-k-preserved : goal.loop-k-preserved
 loop-k-preserved c =
@@ -72,7 +42,7 @@ loop-k-preserved c =
     let l = seven_axes a.dim.now a.n in
     let seven = seven_length a.dim.now a.n c.requires.0 in
     let few = c.requires.2 in
-    c.loop-k.invariant.2
+    c.loop-k.invariant.1
     ∙ within_next l a.index.now c.loop-k.k (omega arith) (omega arith)
     ∙ rw (← c.length_after.ensures.0) in
     let product : let a = c.args in get_or a.index.now c.loop-k.k 0 * c.limited.result ≤ 32767 * (image_limit + 1) =
@@ -87,12 +57,11 @@ loop-k-preserved c =
     let below : get_or index k 0 < c.length_after.result = omega arith in
     let left = bytes_before (drop (k + 1) steps) (drop (k + 1) index) in
     let split = before_next steps index k (omega arith) (omega arith) in (
-      omega arith,
-      more k c.loop-k.sum _ c.loop-k.invariant.1 product,
+      more k c.loop-k.sum _ c.loop-k.invariant.0 product,
       next ∙ rw (lt-ltb _ _ below),
       rw c.limited.ensures (capped-sum c.loop-k.sum (get_or index k 0) (get_or steps k 0) left)
           ∙ ap (λ (m : ℕ). capped (c.loop-k.sum + m)) (sym split)
-          ∙ c.loop-k.invariant.3,
+          ∙ c.loop-k.invariant.2,
     )
 
 pub returns : goal.returns
@@ -104,10 +73,10 @@ returns c =
     let end : c.loop-k.k ≡ 7 = omega (arith, c.requires.2) in
     let seven = seven_length a.dim.now a.n c.requires.0 in
     let inside : within l index ≡ true =
-    c.loop-k.invariant.2 ∙ within_end l index c.loop-k.k (omega arith) (omega (arith, c.requires.2)) in
+    c.loop-k.invariant.1 ∙ within_end l index c.loop-k.k (omega arith) (omega (arith, c.requires.2)) in
     let none = before_end steps index c.loop-k.k (omega (arith, c.requires.1)) in
     record {
       outside = λ w. absurd (false≢true (sym w ∙ inside));
-      inside = λ _. rw (none, add-zero) at c.loop-k.invariant.3;
-      small = λ _. rw end at c.loop-k.invariant.1;
+      inside = λ _. rw (none, add-zero) at c.loop-k.invariant.2;
+      small = λ _. rw end at c.loop-k.invariant.0;
     }

@@ -1,6 +1,6 @@
 -- `sizes_of` meets its contract: after k turns the array has the steps of axes 1 to k, and `step` is the next one.
 use mathlib.Core.Path.{◌≡◌}
-use Prim.Native.Nat.{◌-◌, ◌≤◌}
+use Prim.Native.Nat.{◌-◌}
 use mathlib.Core.List.{◌++◌}
 use lib.ListN.{replicate}
 use Rattle.grid.specs.Sizes.{step_after, steps_to}
@@ -8,7 +8,4 @@ use Rattle.sizes.proofs.sizes_of.Given as goal
 
 abbrev pub invariant-loop-k : goal.invariant-loop-k
 invariant-loop-k l =
-    (l.k ≤ 7) × (l.step ≡ step_after l.dim l.n l.bytes l.k) × (l.steps ≡ steps_to l.dim l.n l.bytes l.k ++ replicate (7 - l.k) 0)
-
-abbrev pub decreases-loop-k : goal.decreases-loop-k
-decreases-loop-k l = 7 - l.k
+    (l.step ≡ step_after l.dim l.n l.bytes l.k) × (l.steps ≡ steps_to l.dim l.n l.bytes l.k ++ replicate (7 - l.k) 0)

@@ -7,6 +7,6 @@ pub returns-then-is_stated : goal.returns-then-is_stated
 returns-then-is_stated c =
     rw (card_stated c.args.a (sym c.is_stated.ensures ∙ c.if-is_stated.true)) c.put_stated.ensures
 
-pub returns : goal.returns
-returns c =
+pub returns-else-is_stated : goal.returns-else-is_stated
+returns-else-is_stated c =
     rw (card_unstated c.args.a (sym c.is_stated.ensures ∙ c.if-is_stated.false)) c.put_unstated.ensures

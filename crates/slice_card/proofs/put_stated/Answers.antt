@@ -15,7 +15,7 @@ returns-then-out-width c =
     let p = c.padded_count-count in
     omega (arith, stated_length c.args.a n.result p.result n.ensures.0 p.ensures, c.lines_width.ensures.0, c.width.ensures.0) in
     let a = c.args in
-    fills_none a.out.now (ended (stated_lines a.a)) (omega (arith, width_is, c.if-out-width.true))
+    rw c.at.ensures (fills_none a.out.now (ended (stated_lines a.a)) (omega (arith, width_is, c.if-out-width.true)))
 
 pub returns : goal.returns
 returns c =
@@ -26,7 +26,7 @@ returns c =
     let n = c.acquired_count-n in
     let p = c.padded_count-count in
     let k = c.put_lines-at in
-    let e = c.put_padded-end in
+    let e = c.put_padded in
     let a = c.args in
     fills_whole a.out.now (ended (stated_lines a.a)) _ _
     (omega (arith, width_is, c.if-out-width.false))

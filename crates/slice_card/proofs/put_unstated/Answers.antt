@@ -9,7 +9,7 @@ use Rattle.slice_card.proofs.put_unstated.Goals as goal
 
 pub returns-then-out-lt10 : goal.returns-then-out-lt10
 unfolding ended
-returns-then-out-lt10 c = fills_none c.args.out.now (ended (no_timing ∷ [])) (omega arith)
+returns-then-out-lt10 c = rw c.at.ensures (fills_none c.args.out.now (ended (no_timing ∷ [])) (omega arith))
 
 pub returns : goal.returns
 unfolding ended

@@ -3,14 +3,14 @@ use Rattle.std.proofs.Common.{sym, ◌∙◌}
 use Rattle.slice_position.proofs.Positions.{file_position_finite}
 use Rattle.slice_table.proofs.print_position.Goals as goal
 
-pub say_float-requires : goal.say_float-requires
-say_float-requires g c =
-    (file_position_finite c.args.file.now c.args.i c.args.j c.args.k _ (sym c.position_of-answer.ensures ∙ c.in-At.is)).0
+pub pattern-x-requires : goal.pattern-x-requires
+pattern-x-requires g c =
+    (file_position_finite c.args.file.now c.args.i c.args.j c.args.k _ (sym c.position_of.ensures ∙ c.in-Ok.is)).0
 
-pub say_float-requires-in-At : goal.say_float-requires-in-At
-say_float-requires-in-At g c =
-    (file_position_finite c.args.file.now c.args.i c.args.j c.args.k _ (sym c.position_of-answer.ensures ∙ c.in-At.is)).1
+pub pattern-y-requires : goal.pattern-y-requires
+pattern-y-requires g c =
+    (file_position_finite c.args.file.now c.args.i c.args.j c.args.k _ (sym c.position_of.ensures ∙ c.in-Ok.is)).1
 
-pub say_float-requires-in-At-2 : goal.say_float-requires-in-At-2
-say_float-requires-in-At-2 g c =
-    (file_position_finite c.args.file.now c.args.i c.args.j c.args.k _ (sym c.position_of-answer.ensures ∙ c.in-At.is)).2
+pub pattern-z-requires : goal.pattern-z-requires
+pattern-z-requires g c =
+    (file_position_finite c.args.file.now c.args.i c.args.j c.args.k _ (sym c.position_of.ensures ∙ c.in-Ok.is)).2

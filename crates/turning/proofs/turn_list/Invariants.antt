@@ -9,12 +9,9 @@ use Rattle.turning.specs.Turn.{runs_in}
 use Rattle.turning.proofs.Turning.{Turning}
 use Rattle.turning.proofs.turn_list.Given as goal
 
-abbrev pub invariant-loop-k : goal.invariant-loop-k
-invariant-loop-k l =
+abbrev pub invariant-loop : goal.invariant-loop
+invariant-loop l =
     let s = l.initial.file in
-    (l.k ≤ l.count)
+    (l.counter ≤ l.count)
     × ((length l.file ≡ length s)
-    × Turning (turn_runs_at first_place (runs_in l.order l.count (drop first_place s)) s) l.order (l.count - l.k) l.at l.file)
-
-abbrev pub decreases-loop-k : goal.decreases-loop-k
-decreases-loop-k l = l.count - l.k
+    × Turning (turn_runs_at first_place (runs_in l.order l.count (drop first_place s)) s) l.order (l.count - l.counter) l.at l.file)

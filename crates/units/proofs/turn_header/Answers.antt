@@ -1,22 +1,9 @@
 -- `turn_header` meets its contract: one step of a chain for each of the sixteen runs of a header, eleven by a call and five that stay.
 use mathlib.Core.Path.{refl}
-use native.Mathlib.Omega.{arith}
 use Rattle.units.specs.Runs.{run, turn_runs_at, header_runs}
 use Rattle.units.proofs.Runs.{header_span}
 use Rattle.units.proofs.Chain.{Chain, chain_next, chain_stay, chain_done}
 use Rattle.units.proofs.turn_header.Goals as goal
-
-pub turn_units-requires-9 : goal.turn_units-requires-9
-turn_units-requires-9 c =
-    omega (arith, c, c)
-
-pub turn_units-requires-10 : goal.turn_units-requires-10
-turn_units-requires-10 c =
-    omega (arith, c, c)
-
-pub turn_units-requires-11 : goal.turn_units-requires-11
-turn_units-requires-11 c =
-    omega (arith, c, c)
 
 pub returns : goal.returns
 returns c =

@@ -3,14 +3,14 @@ use mathlib.Core.Path.{sym, ◌∙◌}
 use Rattle.answers.proofs.Shown.{hidden_extension, shown_extension_lem}
 use Rattle.vestumbral.proofs.vestumbral_extension_at.Goals as goal
 
-pub returns-in-Hidden : goal.returns-in-Hidden
-returns-in-Hidden c =
+pub returns-in-Err : goal.returns-in-Err
+returns-in-Err c =
     let a = c.args in
-    c.refused_extension.ensures
-    ∙ hidden_extension a.file.now a.number c.in-Hidden.r (sym c.outline_of-outlined.ensures ∙ c.in-Hidden.is)
+    c.into.ensures
+    ∙ hidden_extension a.file.now a.number c.in-Err.r (sym c.outline_of.ensures ∙ c.in-Err.is)
 
-pub returns-in-Shown : goal.returns-in-Shown
-returns-in-Shown c =
+pub returns-in-Ok : goal.returns-in-Ok
+returns-in-Ok c =
     let a = c.args in
     c.shown_extension.ensures
-    ∙ shown_extension_lem a.file.now a.number c.in-Shown.o (sym c.outline_of-outlined.ensures ∙ c.in-Shown.is)
+    ∙ shown_extension_lem a.file.now a.number c.in-Ok.o (sym c.outline_of.ensures ∙ c.in-Ok.is)

@@ -5,4 +5,4 @@ use Rattle.vestumbral.proofs.vestumbral_line.Goals as goal
 
 pub returns : goal.returns
 returns c =
-    (c.line_reply.ensures ∙ ap line_reply c.line-lined.ensures.0, c.line-lined.ensures.1)
+    (c.into.ensures ∙ ap line_reply c.line.ensures.0, c.line.ensures.1)

@@ -4,4 +4,4 @@ use Rattle.answers.specs.Answers.{position_answer}
 use Rattle.vestumbral.proofs.vestumbral_position_of.Goals as goal
 
 pub returns : goal.returns
-returns c = c.position_answer.ensures ∙ ap position_answer c.position_of.ensures
+returns c = c.into.ensures ∙ ap position_answer c.position_of.ensures

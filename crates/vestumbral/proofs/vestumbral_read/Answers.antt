@@ -4,10 +4,10 @@ use Rattle.answers.proofs.Shown.{hidden_file}
 use Rattle.vestumbral.proofs.vestumbral_read.Goals as goal
 
 pub shown_file-requires : goal.shown_file-requires
-shown_file-requires c = sym c.outline_of-outlined.ensures ∙ c.in-Shown.is
+shown_file-requires c = sym c.outline_of.ensures ∙ c.in-Ok.is
 
-pub returns-in-Hidden : goal.returns-in-Hidden
-returns-in-Hidden c =
+pub returns-in-Err : goal.returns-in-Err
+returns-in-Err c =
     let a = c.args in
-    c.refused_file.ensures
-    ∙ hidden_file a.file.now 0 c.in-Hidden.r (sym c.outline_of-outlined.ensures ∙ c.in-Hidden.is)
+    c.into.ensures
+    ∙ hidden_file a.file.now 0 c.in-Err.r (sym c.outline_of.ensures ∙ c.in-Err.is)

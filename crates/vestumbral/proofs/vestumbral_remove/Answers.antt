@@ -5,4 +5,4 @@ use Rattle.vestumbral.proofs.vestumbral_remove.Goals as goal
 
 pub returns : goal.returns
 returns c =
-    record { answer = c.edit_reply.ensures ∙ ap edit_reply c.remove-edited.ensures.answer; content = c.remove-edited.ensures.content }
+    record { answer = c.into.ensures ∙ ap edit_reply c.remove.ensures.answer; content = c.remove.ensures.content }

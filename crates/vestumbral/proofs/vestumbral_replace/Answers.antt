@@ -9,6 +9,6 @@ pub returns : goal.returns
 returns c =
     let same = to_z-of_z w32 c.args.code c.ranges.code in
     record {
-      answer = c.edit_reply.ensures ∙ ap edit_reply (rw same at c.replace-edited.ensures.answer);
-      content = rw same at c.replace-edited.ensures.content;
+      answer = c.into.ensures ∙ ap edit_reply (rw same at c.replace.ensures.answer);
+      content = rw same at c.replace.ensures.content;
     }

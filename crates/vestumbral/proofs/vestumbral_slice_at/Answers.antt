@@ -4,4 +4,4 @@ use Rattle.answers.specs.Answers.{slice_answer}
 use Rattle.vestumbral.proofs.vestumbral_slice_at.Goals as goal
 
 pub returns : goal.returns
-returns c = c.slice_answer.ensures ∙ ap slice_answer c.slice_at.ensures
+returns c = c.into.ensures ∙ ap slice_answer c.slice_at.ensures

@@ -4,4 +4,4 @@ use Rattle.answers.specs.Answers.{ranked_answer}
 use Rattle.vestumbral.proofs.vestumbral_slice_of_rank.Goals as goal
 
 pub returns : goal.returns
-returns c = c.ranked_answer.ensures ∙ ap ranked_answer c.slice_of_rank.ensures
+returns c = c.into.ensures ∙ ap ranked_answer c.slice_of_rank.ensures

@@ -5,4 +5,4 @@ use Rattle.vestumbral.proofs.vestumbral_swap.Goals as goal
 
 pub returns : goal.returns
 returns c =
-    (c.swap_reply.ensures ∙ ap swap_reply c.swap-verdict.ensures.0, c.swap-verdict.ensures.1, c.swap-verdict.ensures.2)
+    (c.into.ensures ∙ ap swap_reply c.swap.ensures.0, c.swap.ensures.1, c.swap.ensures.2)

@@ -5,5 +5,5 @@ use Rattle.vestumbral.proofs.vestumbral_turn.Goals as goal
 
 pub returns : goal.returns
 returns c =
-    let made = rw c.turn_of-t.ensures at c.turn-turned.ensures in
-    record { answer = c.turned_answer.ensures ∙ ap turned_answer made.0; content = made.1; image = made.2 }
+    let made = rw c.turn_of-t.ensures at c.turn.ensures in
+    record { answer = c.into.ensures ∙ ap turned_answer made.0; content = made.1; image = made.2 }

@@ -4,4 +4,4 @@ use Rattle.answers.specs.Answers.{voxel_reply}
 use Rattle.vestumbral.proofs.vestumbral_voxel.Goals as goal
 
 pub returns : goal.returns
-returns c = c.voxel_reply.ensures ∙ ap voxel_reply c.locate.ensures
+returns c = c.into.ensures ∙ ap voxel_reply c.locate.ensures

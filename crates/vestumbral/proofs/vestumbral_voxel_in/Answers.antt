@@ -19,4 +19,4 @@ returns c =
     let f = a.file in
     let index = a.i1 ∷ a.i2 ∷ a.i3 ∷ a.i4 ∷ a.i5 ∷ a.i6 ∷ a.i7 ∷ [] in
     let by = ap (λ (x : Kind). stepped_by (volume f.dim f.data_offset f.data_bytes f.step x) a.image_len index) c.kind_by-kind.ensures in
-    rw (eq-eqb f.refusal 0 c.if-file-ne0.false) (c.voxel_reply.ensures ∙ ap voxel_reply (c.locate_at-located.ensures ∙ by))
+    rw (eq-eqb f.refusal 0 c.if-file-ne0.false) (c.into.ensures ∙ ap voxel_reply (c.locate_at.ensures ∙ by))

@@ -1,11 +1,7 @@
 -- `voxel_run_by_file` meets its contract: after k turns the greatest is that of the file's first k voxels.
 use mathlib.Core.Path.{◌≡◌}
-use Prim.Native.Nat.{◌-◌, ◌≤◌}
 use Rattle.voxel_run.specs.Farthest.{farthest}
 use Rattle.voxel_run.proofs.voxel_run_by_file.Given as goal
 
 abbrev pub invariant-loop-k : goal.invariant-loop-k
-invariant-loop-k l = (l.k ≤ l.count) × (l.most ≡ farthest l.file l.k)
-
-abbrev pub decreases-loop-k : goal.decreases-loop-k
-decreases-loop-k l = l.count - l.k
+invariant-loop-k l = l.most ≡ farthest l.file l.k

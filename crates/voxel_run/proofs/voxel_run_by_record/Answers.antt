@@ -3,13 +3,13 @@ use mathlib.Core.Path.{sym, ◌∙◌}
 use Rattle.voxel_run.proofs.Farthest.{farthest_refused, farthest_accepted}
 use Rattle.voxel_run.proofs.voxel_run_by_record.Goals as goal
 
-pub returns-in-Refused : goal.returns-in-Refused
-returns-in-Refused c =
+pub returns-in-Err : goal.returns-in-Err
+returns-in-Err c =
     let a = c.args in
-    sym (farthest_refused a.file.now a.count c.in-Refused.field-0 (rw c.read-reading.ensures at c.in-Refused.is))
+    sym (farthest_refused a.file.now a.count c.in-Err.field-0 (rw c.read-reading.ensures at c.in-Err.is))
 
-pub returns-in-Accepted : goal.returns-in-Accepted
-returns-in-Accepted c =
+pub returns-in-Ok : goal.returns-in-Ok
+returns-in-Ok c =
     let a = c.args in
     (rw c.read-reading.ensures at c.run_in.ensures)
-    ∙ sym (farthest_accepted a.file.now a.count (rw c.read-reading.ensures at c.in-Accepted.is))
+    ∙ sym (farthest_accepted a.file.now a.count (rw c.read-reading.ensures at c.in-Ok.is))

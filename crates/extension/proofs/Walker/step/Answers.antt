@@ -7,4 +7,4 @@ pub returns : goal.returns
 unfolding step_of
 returns c =
     let a = c.args in
-    rw (← part_rest a.file.now a.self.end a.self.at _ _ c.lesser-stop.ensures c.lesser-from.ensures) c.step_over.ensures
+    rw (← part_rest a.file.now a.self.end a.self.at _ _ c.min-stop.ensures c.min-from.ensures) c.step_over.ensures

@@ -1,4 +1,5 @@
 -- `Walker::step_by` meets its contract: each return is one outcome of `found_by` (proofs/Found.antt).
+use Rattle.std.specs.Prelude.{Ok, Some}
 use Prim.Native.Nat.{◌+◌}
 use mathlib.Core.Path.{◌≡◌, sym, ◌∙◌}
 use mathlib.Core.Bool.{Bool, true}
@@ -8,7 +9,6 @@ use lib.Signed.{lt_z}
 use mir.Syntax.{w32}
 use mir.Val.{to_z, of_z}
 use mir.ValLaws.{to_z-of_z}
-use Rattle.extension.specs.declared.Step.TheVariants.{Extension}
 use Rattle.extension.specs.Walk.{size_rule, span}
 use Rattle.extension.proofs.Signs.{Ruled, ruled}
 use Rattle.extension.proofs.Found.{found_none, found_ended, found_limit, found_size, found_code, found_extension}
@@ -20,7 +20,7 @@ returns-then-count-eq0 c =
     let n = c.args.n in
     let size = c.args.size in
     let code = c.args.code in
-    rw (found_none self.count self.at n size code (omega arith) (omega arith)) c.halt.ensures
+    rw (found_none self.count self.at n size code (omega arith) (omega arith), c.at.ensures)
 
 pub returns-then-n-eq0 : goal.returns-then-n-eq0
 returns-then-n-eq0 c =
@@ -36,7 +36,7 @@ returns-then-count-ge-LIMIT c =
     let n = c.args.n in
     let size = c.args.size in
     let code = c.args.code in
-    rw (found_limit self.count self.at n size code (omega arith) (omega arith)) c.halt-then-count-ge-LIMIT.ensures
+    rw (found_limit self.count self.at n size code (omega arith) (omega arith), c.at-then-count-ge-LIMIT.ensures)
 
 pub returns-then-not-sized : goal.returns-then-not-sized
 returns-then-not-sized c =
@@ -47,7 +47,7 @@ returns-then-not-sized c =
     let size_same : to_z w32 (of_z w32 size) ≡ size = to_z-of_z w32 size c.ranges.size in
     let rule-is : c.size_rule-sized.result ≡ size_rule size n = rw size_same at c.size_rule-sized.ensures in
     let broken = sym rule-is ∙ c.if-not-sized.true in
-    rw (found_size self.count self.at n size code (omega arith) (omega arith) broken) c.halt-then-not-sized.ensures
+    rw (found_size self.count self.at n size code (omega arith) (omega arith) broken, c.at-then-not-sized.ensures)
 
 pub overflow_add-at : goal.overflow_add-at
 overflow_add-at c =
@@ -70,8 +70,7 @@ returns-then-code-lt0 c =
     let rule-is : c.size_rule-sized.result ≡ size_rule size n = rw size_same at c.size_rule-sized.ensures in
     let held : size_rule size n ≡ true = sym rule-is ∙ c.if-not-sized.false in
     let coded : (t : Bool) → lt_z (to_z w32 (of_z w32 code)) (pos 0) ≡ t → lt_z code (pos 0) ≡ t = λ t e. rw code_same at e in
-    rw (found_code self.count self.at n size code (omega arith) (omega arith) held (coded _ c.if-code-lt0.true))
-    c.halt-then-code-lt0.ensures
+    rw (found_code self.count self.at n size code (omega arith) (omega arith) held (coded _ c.if-code-lt0.true), c.at-then-code-lt0.ensures)
 
 pub overflow_cast-past : goal.overflow_cast-past
 overflow_cast-past c =
@@ -108,5 +107,4 @@ returns c =
     let coded : (t : Bool) → lt_z (to_z w32 (of_z w32 code)) (pos 0) ≡ t → lt_z code (pos 0) ≡ t = λ t e. rw code_same at e in
     rw (found_extension self.count self.at n size code (omega arith) (omega arith) held (coded _ c.if-code-lt0.false))
     (λ i.
-    Extension (span self.at (size_same i) (code_same i))
-    (record { order = self.order; end = self.end; at = self.at + nat_abs (size_same i); count = self.count + 1 }))
+    Ok (Some (span self.at (size_same i) (code_same i), record { order = self.order; end = self.end; at = self.at + nat_abs (size_same i); count = self.count + 1 })))

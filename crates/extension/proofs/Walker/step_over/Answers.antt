@@ -24,8 +24,8 @@ returns-then-rest-lt16 c =
 pub returns : goal.returns
 unfolding found
 returns c =
-    let size = c.read_i32-size in
-    let code = c.read_i32-code in
+    let size = c.read-size in
+    let code = c.read-code in
     let s : to_z w32 (of_z w32 size.result) ≡ size.result = to_z-of_z w32 size.result (record { sfits = size.type_inv }) in
     let d : to_z w32 (of_z w32 code.result) ≡ code.result = to_z-of_z w32 code.result (record { sfits = code.type_inv }) in
     rw (s, d, size.ensures, code.ensures) at c.step_by-2.ensures

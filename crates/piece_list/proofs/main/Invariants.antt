@@ -1,7 +1,0 @@
--- The measure is what may still come of the total.
-use Rattle.std.proofs.Common.{◌-◌}
-use Rattle.pieces.specs.Pieces.{total_limit}
-use Rattle.piece_list.proofs.main.Given as goal
-
-abbrev pub decreases-loop-n : goal.decreases-loop-n
-decreases-loop-n l = total_limit - l.pieces.taken

@@ -1,8 +1,0 @@
--- `i16_of` meets its contract: past the end, a list's element is the default.
-use lib.IntN.{pos}
-use mathlib.Core.Path.{sym}
-use lib.ListN.{get_or-eq_default}
-use Rattle.store.proofs.i16_of.Goals as goal
-
-pub returns-else-i-src : goal.returns-else-i-src
-returns-else-i-src c = sym (get_or-eq_default c.args.src.now (pos 0) c.if-i-src.false)
