@@ -38,7 +38,7 @@ fn write_intent(g: Intent, order: Order, buf: &mut [u8])
 fn write_scale(g: Scale, order: Order, buf: &mut [u8])
     ensures { buf.new ≡ sets buf.old 76 (scale_bytes order g) }
 {
-    store::put_numbers(buf, 76, order, &g.pixdim);
+    store::put_numbers(buf, 76, order, 8, &g.pixdim);
     store::put(buf, 108, order, g.vox_offset);
     store::put(buf, 112, order, g.scl_slope);
     store::put(buf, 116, order, g.scl_inter);
@@ -76,9 +76,9 @@ fn write_quatern(g: Quatern, order: Order, buf: &mut [u8])
 fn write_rows(g: Rows, order: Order, kind: Kind, buf: &mut [u8])
     ensures { buf.new ≡ sets buf.old 280 (rows_bytes order kind g) }
 {
-    store::put_numbers(buf, 280, order, &g.srow_x);
-    store::put_numbers(buf, 296, order, &g.srow_y);
-    store::put_numbers(buf, 312, order, &g.srow_z);
+    store::put_numbers(buf, 280, order, 4, &g.srow_x);
+    store::put_numbers(buf, 296, order, 4, &g.srow_y);
+    store::put_numbers(buf, 312, order, 4, &g.srow_z);
     store::put_bytes(buf, 328, 16, &g.intent_name);
     magic::put_magic(buf, kind);
 }
@@ -88,7 +88,7 @@ pub fn write_header(h: Header, buf: &mut [u8])
     ensures { buf.new ≡ sets buf.old 0 (encode h) }
 {
     write_key(h.key, h.order, buf);
-    store::put_numbers(buf, 40, h.order, &h.dim);
+    store::put_numbers(buf, 40, h.order, 8, &h.dim);
     write_intent(h.intent, h.order, buf);
     write_scale(h.scale, h.order, buf);
     write_display(h.display, h.order, buf);

@@ -32,6 +32,9 @@ pub trait Number: Copy + Default {
         requires { at + WIDTH ≤ length s.now }
         ensures { result ≡ number_at order s.now at };
 
+    fn zero() -> Self
+        ensures { result ≡ number_zero };
+
     // The number's own bytes come first.
     fn bytes(self, order: Order) -> [u8; 4]
         ensures { padded WIDTH result ≡ bytes_of order WIDTH (number_bits self) };
@@ -54,6 +57,10 @@ impl Number for u16 {
     ghost number_bits = { λ n. n };
 
     ghost number_zero = { 0 };
+
+    fn zero() -> u16 {
+        0
+    }
 
     #[tactic(auto, unfolding(crate::specs::Numbers::u16_at))]
     fn read(s: &[u8], at: usize, order: Order) -> u16 {
@@ -85,6 +92,10 @@ impl Number for u32 {
 
     ghost number_zero = { 0 };
 
+    fn zero() -> u32 {
+        0
+    }
+
     #[tactic(auto, unfolding(crate::specs::Numbers::u32_at))]
     fn read(s: &[u8], at: usize, order: Order) -> u32 {
         let bytes = [s[at], s[at + 1], s[at + 2], s[at + 3]];
@@ -115,6 +126,10 @@ impl Number for i16 {
 
     ghost number_zero = { pos 0 };
 
+    fn zero() -> i16 {
+        0
+    }
+
     fn read(s: &[u8], at: usize, order: Order) -> i16 {
         u16::read(s, at, order).cast_signed()
     }
@@ -135,6 +150,10 @@ impl Number for i32 {
 
     ghost number_zero = { pos 0 };
 
+    fn zero() -> i32 {
+        0
+    }
+
     fn read(s: &[u8], at: usize, order: Order) -> i32 {
         u32::read(s, at, order).cast_signed()
     }
@@ -144,15 +163,23 @@ impl Number for i32 {
     }
 }
 
+// Fills `out` with the numbers from a place on, one after the other.
+pub fn numbers_out<T: Number>(s: &[u8], at: usize, order: Order, out: &mut [T])
+    requires { at + length out.old * T.WIDTH ≤ length s.now }
+    ensures { out.new ≡ tabulate (λ i. T.number_at order s.now (at + i * T.WIDTH)) (length out.old) }
+{
+    for (i, n) in out.iter_mut().enumerate() {
+        *n = T::read(s, at + i * T::WIDTH, order);
+    }
+}
+
 // The numbers of a field that is an array.
 pub fn numbers<T: Number, const N: usize>(s: &[u8], at: usize, order: Order) -> [T; N]
     requires { at + N * T.WIDTH ≤ length s.now }
     ensures { result ≡ tabulate (λ i. T.number_at order s.now (at + i * T.WIDTH)) N }
 {
     let mut out = [T::default(); N];
-    for (i, n) in out.iter_mut().enumerate() {
-        *n = T::read(s, at + i * T::WIDTH, order);
-    }
+    numbers_out(s, at, order, &mut out);
     out
 }
 

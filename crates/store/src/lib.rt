@@ -36,17 +36,19 @@ pub fn put<T: Number>(buf: &mut [u8], at: usize, order: Order, n: T)
     put_bytes(buf, at, T::WIDTH, &n.bytes(order));
 }
 
-// Stores the numbers of an array, one after the other.
-pub fn put_numbers<T: Number, const N: usize>(
-    buf: &mut [u8],
-    at: usize,
-    order: Order,
-    numbers: &[T; N],
-)
-    requires { at + N * T.WIDTH < 2 ^ 64 }
-    ensures { buf.new ≡ sets buf.old at (joined (tabulate (λ i. bytes_of order T.WIDTH (T.number_bits (get_or numbers.now i T.number_zero))) N)) }
+// A number of a slice, and zero past its end.
+fn number_of<T: Number>(src: &[T], i: usize) -> T
+    ensures { result ≡ get_or src.now i T.number_zero }
 {
-    for (i, n) in numbers.iter().enumerate() {
-        put(buf, at + i * T::WIDTH, order, *n);
+    if i < src.len() { src[i] } else { T::zero() }
+}
+
+// Stores n numbers, one after the other: the first of src, then zeros.
+pub fn put_numbers<T: Number>(buf: &mut [u8], at: usize, order: Order, n: usize, src: &[T])
+    requires { at + n * T.WIDTH < 2 ^ 64 }
+    ensures { buf.new ≡ sets buf.old at (joined (tabulate (λ i. bytes_of order T.WIDTH (T.number_bits (get_or src.now i T.number_zero))) n)) }
+{
+    for i in 0..n {
+        put(buf, at + i * T::WIDTH, order, number_of(src, i));
     }
 }

@@ -7,4 +7,4 @@ use Rattle.store.proofs.put_numbers.Given as goal
 abbrev pub invariant-loop-i : goal.invariant-loop-i
 invariant-loop-i g l =
     let t = g.T.Number in
-    l.buf ≡ sets l.initial.buf l.at (joined (tabulate (λ k. bytes_of l.order t.WIDTH (t.number_bits (get_or l.numbers k t.number_zero))) l.i))
+    l.buf ≡ sets l.initial.buf l.at (joined (tabulate (λ k. bytes_of l.order t.WIDTH (t.number_bits (get_or l.src k t.number_zero))) l.i))
