@@ -78,6 +78,20 @@ impl Offset {
     }
 }
 
+// The whole number of what was read, aligned or not; 0 where the bits were refused.
+pub fn whole_in(offset: Result<Offset, Refusal>) -> u64
+    ensures { result ≡ whole_in offset }
+{
+    offset.map_or(0, |found| found.whole())
+}
+
+// Whether it is aligned.
+pub fn says_aligned(offset: Result<Offset, Refusal>) -> bool
+    ensures { result ≡ says_aligned offset }
+{
+    offset.is_ok_and(|found| found.is_aligned())
+}
+
 // The bits of the binary32 nearest to n: of n itself, where n is a multiple of 16 up to the limit.
 pub fn encode(n: u32) -> u32
     ensures { result ≡ offset_bits n }
