@@ -64,7 +64,7 @@ fn eight(word: u64) -> u64
 fn fours(word: u64) -> u64
     ensures { result ≡ turned_word 4 word }
 {
-    word.swap_bytes().rotate_left(32)
+    eight(word).rotate_left(32)
 }
 
 // A word with each of its units turned round.
