@@ -3,18 +3,15 @@
 use Rattle.refusal.specs.declared.Rule.TheVariants.{ShortBuffer, WrongRecord}
 use Rattle.std.specs.Prelude.{Ok, Err}
 use Prim.Native.Nat.{ℕ, ◌<◌, ◌≤◌}
-use mathlib.Core.Path.{◌≡◌, refl, sym, ap, ◌∙◌}
+use mathlib.Core.Path.{◌≡◌, refl, sym, ◌∙◌}
 use mathlib.Core.Logic.{◌↔◌}
-use mathlib.Core.Bool.{Bool, true, false, not, ◌&&◌, true≢false, false≢true}
+use mathlib.Core.Bool.{Bool, true, false, not, true≢false, false≢true}
 use mathlib.Core.List.{List, [], ◌∷◌}
 use native.Mathlib.Omega.{arith}
 use borrow.Author.Tests.{lt-ltb, le-ltb, not-false}
 use lib.Dec.{ltb, eqb}
 use lib.ListN.{length}
-use lib.Pointwise.{pointwise}
 use lib.Seq.{sets}
-use Rattle.number.specs.Same.{same_numbers}
-use Rattle.grid.specs.Sizes.{same_sizes}
 use Rattle.refusal.specs.declared.Refusal.{Refusal}
 use Rattle.refusal.specs.Table.{Row, row, refusal, verdict, then, Verdict, no_refusal}
 use Rattle.refusal.proofs.Rows.{Clear, accepted_clear, clear_accepted, verdict-append, verdict_number}
@@ -89,17 +86,6 @@ passes_right h e =
       sizes_same h.sizes (sizes_of h.dim h.intent.datatype) (not-false _ n.0),
       fact_same h.aligned (aligned_of h.scale.vox_offset) (not-false _ n.1),
     )
-
--- what the test of the sizes reads: `==` of two lists of numbers says what `same_numbers` says
-same_pointwise : (l m : List ℕ) → pointwise eqb l m ≡ same_numbers l m
-same_pointwise [] [] = refl
-same_pointwise [] (b ∷ bs) = refl
-same_pointwise (a ∷ l) [] = refl
-same_pointwise (a ∷ l) (b ∷ bs) = ap (λ t. eqb a b && t) (same_pointwise l bs)
-
-pub wrong_read : (h : Header) (s : Sizes) → s ≡ sizes_of h.dim h.intent.datatype
-    → not (eqb h.sizes.total s.total && pointwise eqb h.sizes.steps s.steps) ≡ wrong_sizes h
-wrong_read h s e = ap (λ t. not (eqb h.sizes.total s.total && t)) (same_pointwise h.sizes.steps s.steps) ∙ ap (λ z. not (same_sizes h.sizes z)) e
 
 wrong_is : (h : Header) → (wrong_facts h ≡ true) ↔ (Right h → ⊥)
 wrong_is h = by (wrong_facts h) refl

@@ -16,7 +16,8 @@ fn has_wrong_facts(header: Header, aligned: bool) -> bool
     requires header_value { aligned_in (shape_of_record header) ≡ aligned }
     ensures { result ≡ wrong_facts header }
 {
-    header.sizes != sizes::sizes_in(header.dim, header.intent.bitpix) || header.aligned != aligned
+    let sizes = sizes::sizes_in(header.dim, header.intent.bitpix);
+    !sizes::are_same(header.sizes, sizes) || header.aligned != aligned
 }
 
 // Writes 348 and the kind's magic and all other fields as the record has them, in the record's own byte order. Only the
