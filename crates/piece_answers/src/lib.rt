@@ -27,21 +27,19 @@ pub struct TakenAnswer {
 }
 
 #[tactic(auto, unfolding(crate::specs::Answers::taken_answer))]
-pub fn taken_answer(mut pieces: Pieces, piece: &[u8]) -> TakenAnswer
+pub fn taken_answer(pieces: Pieces, piece: &[u8]) -> TakenAnswer
     ensures { result ≡ taken_answer (taken_of pieces piece.now) }
 {
-    match pieces.take(piece) {
-        Ok(()) => TakenAnswer {
-            refusal: 0,
-            place: 0,
-            pieces,
-        },
-        Err(r) => TakenAnswer {
-            refusal: r.number(),
-            place: r.place as u64,
-            pieces,
-        },
+    let mut answer = TakenAnswer {
+        refusal: 0,
+        place: 0,
+        pieces,
+    };
+    if let Err(r) = answer.pieces.take(piece) {
+        answer.refusal = r.number();
+        answer.place = r.place as u64;
     }
+    answer
 }
 
 // What a record shows of its file.

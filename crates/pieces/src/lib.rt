@@ -33,17 +33,14 @@ fn passes_total(taken: usize, len: usize) -> bool
     TOTAL < taken || TOTAL - taken < len
 }
 
-// The first 352 bytes, with those that a piece brings.
-fn front_with(old: [u8; 352], taken: usize, piece: &[u8]) -> [u8; 352]
-    ensures { result ≡ front_with old taken piece.now }
+// A piece's bytes among the first 352. They are stored in place, for after these nothing is.
+fn put_front(front: &mut [u8; 352], taken: usize, piece: &[u8])
+    ensures { front.new ≡ front_with front.old taken piece.now }
 {
-    if 352 <= taken {
-        return old;
+    if taken < 352 {
+        let n = (352 - taken).min(piece.len());
+        front[taken..taken + n].copy_from_slice(&piece[..n]);
     }
-    let n = (352 - taken).min(piece.len());
-    let mut out = old;
-    out[taken..taken + n].copy_from_slice(&piece[..n]);
-    out
 }
 
 // The byte order, by dim[0].
@@ -65,7 +62,7 @@ fn end_by(kind: Kind, offset: Result<Offset, Refusal>) -> usize
 {
     match kind {
         Kind::Pair => TOTAL,
-        Kind::Single => offset.map_or(0, |found| found.whole() as usize),
+        Kind::Single => offset::whole_in(offset) as usize,
     }
 }
 
@@ -93,22 +90,6 @@ fn is_skipped(front: &[u8], at: usize, taken: usize, total: usize) -> bool
     352 <= taken && (end_in(front, order_of(front)) <= taken || total <= at)
 }
 
-// The state with a piece that is not skipped.
-#[tactic(auto, unfolding(crate::specs::Pieces::read_on, crate::specs::Pieces::walk_with))]
-fn read_on(pieces: Pieces, piece: &[u8]) -> Pieces
-    requires { pieces.taken + length piece.now ≤ 2199023255552 }
-    ensures { result ≡ read_on pieces piece.now }
-{
-    let front = front_with(pieces.front, pieces.taken, piece);
-    let order = order_of(&front);
-    let end = end_in(&front, order);
-    Pieces {
-        taken: pieces.taken + piece.len(),
-        front,
-        walk: piece_walk::walk_on(order, end, pieces.walk, pieces.taken, piece),
-    }
-}
-
 impl Pieces {
     // The state before the first piece.
     #[tactic(auto, unfolding(crate::specs::Pieces::fresh, piece_walk::specs::Marks::marks_of))]
@@ -127,6 +108,19 @@ impl Pieces {
         }
     }
 
+    // A piece that is not skipped. The parts of the state are stored one by one, for a copy of it all takes as long as the rest.
+    #[tactic(auto, unfolding(crate::specs::Pieces::read_on, crate::specs::Pieces::walk_with))]
+    fn read_on(&mut self, piece: &[u8])
+        requires { self.old.taken + length piece.now ≤ 2199023255552 }
+        ensures { self.new ≡ read_on self.old piece.now }
+    {
+        put_front(&mut self.front, self.taken, piece);
+        let order = order_of(&self.front);
+        let end = end_in(&self.front, order);
+        self.walk = piece_walk::walk_on(order, end, self.walk, self.taken, piece);
+        self.taken += piece.len();
+    }
+
     // Takes a piece; or 25, and the state stays as it was.
     #[tactic(auto, unfolding(crate::specs::Pieces::taken_of, crate::specs::Pieces::taken_with))]
     pub fn take(&mut self, piece: &[u8]) -> Result<(), Refusal>
@@ -140,7 +134,7 @@ impl Pieces {
         if is_skipped(&self.front, self.walk.at, self.taken, total) {
             self.taken = total;
         } else {
-            *self = read_on(*self, piece);
+            self.read_on(piece);
         }
         Ok(())
     }
