@@ -31,9 +31,11 @@ pub trait Engine {
 }
 
 // The fast engine: by the step of the axis.
+#[derive(Clone, Copy)]
 pub struct Steps;
 
 // The plain engine: each voxel is located by its own seven indexes.
+#[derive(Clone, Copy)]
 pub struct Voxels;
 
 // One copy where the voxels lie side by side, and else from voxel to voxel by the step.

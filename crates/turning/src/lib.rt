@@ -20,6 +20,7 @@ pub trait Engine {
 }
 
 // Several units together.
+#[derive(Clone, Copy)]
 pub struct Together;
 
 impl Engine for Together {
@@ -29,6 +30,7 @@ impl Engine for Together {
 }
 
 // One unit after the other.
+#[derive(Clone, Copy)]
 pub struct Singly;
 
 impl Engine for Singly {
