@@ -47,5 +47,6 @@ pub fn line<E: Engine>(
 ) -> Result<usize, Refusal>
     ensures { Lines file.now image.now axis index out.old result out.new }
 {
-    line_copy::line_at::<E>(by_file::volume(file)?, file, image, axis, index, out)
+    let volume = by_file::volume(file)?;
+    line_copy::line_at::<E>(volume, file, image, axis, index, out)
 }

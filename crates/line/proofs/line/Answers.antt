@@ -13,4 +13,4 @@ returns-in_err-volume g c =
 pub returns : goal.returns
 returns g c =
     let a = c.args in
-    lines_shown a.file.now a.image.now a.axis a.index a.out.now c.in_ok-volume.field-0 (sym c.volume.ensures ∙ c.in_ok-volume.was) _ _ c.line_at.ensures
+    lines_shown a.file.now a.image.now a.axis a.index a.out.now c.in_ok-volume.volume (sym c.volume.ensures ∙ c.in_ok-volume.was) _ _ c.line_at.ensures
